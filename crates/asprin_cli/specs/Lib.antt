@@ -1,0 +1,9 @@
+pub mod Words
+pub mod Atoms
+pub mod Preferred
+pub mod Optimal
+pub mod Lines
+pub mod Fronts
+pub mod Outcomes
+pub mod Kept
+pub mod Sublists
