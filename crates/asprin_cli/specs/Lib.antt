@@ -1,9 +1,5 @@
 pub mod Words
-pub mod Atoms
-pub mod Preferred
-pub mod Optimal
 pub mod Lines
 pub mod Fronts
+pub mod Quits
 pub mod Outcomes
-pub mod Kept
-pub mod Sublists

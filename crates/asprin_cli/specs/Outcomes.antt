@@ -7,11 +7,11 @@ use Rattle.ap_eval.specs.AnswerSets.{IsAnswerSet}
 use Rattle.ap_eval.specs.AtomSets.{AtomSet}
 use Rattle.ap_parse.specs.Language.{InLanguage}
 use Rattle.ap_syntax.specs.declared.tree.Program.{Program}
-use Rattle.asprin_cli.specs.Atoms.{atom_count}
+use Rattle.small_optima.specs.Atoms.{atom_count}
 use Rattle.asprin_cli.specs.Fronts as fronts
 use Rattle.asprin_cli.specs.Fronts.{Front}
 use Rattle.asprin_cli.specs.Lines.{status_of, text_of}
-use Rattle.asprin_cli.specs.Optimal.{IsSortedListing}
+use Rattle.small_optima.specs.Optimal.{IsSortedListing}
 use Rattle.asprin_cli.specs.declared.end.End.{End}
 use Rattle.asprin_cli.specs.declared.end.End.TheVariants.{Source, Refused, Unsatisfiable, NoOptimum, Done}
 use Rattle.asprin_cli.specs.declared.end.Refusal.{Refusal}

