@@ -1,5 +1,5 @@
 -- A sink in memory.
-use Rattle.std.specs.Prelude.{ℕ, Bool, ◌||◌, ◌+◌, ◌-◌, ◌^◌, List, [], ◌++◌, take, length, min, nat_le, if◌then◌else◌}
+use Rattle.std.specs.Prelude.{ℕ, Bool, ◌||◌, ◌-◌, ◌^◌, List, [], ◌++◌, take, length, min, nat_le, if◌then◌else◌}
 use Rattle.ap_base.specs.Counts.{counted}
 use Rattle.ap_base.specs.Fakes.{fails_at}
 

@@ -1,5 +1,5 @@
 -- A source in memory.
-use Rattle.std.specs.Prelude.{ℕ, Bool, true, false, ◌+◌, ◌-◌, ◌^◌, List, [], ◌∷◌, Option, None, Some, map, drop, length, min, slice_get, string_bytes, if◌then◌else◌}
+use Rattle.std.specs.Prelude.{ℕ, Bool, true, false, ◌-◌, ◌^◌, List, [], Option, None, Some, map, drop, length, min, slice_get, string_bytes, if◌then◌else◌}
 use Rattle.std.specs.Option.{option_map_or}
 use Rattle.ap_base.specs.Counts.{counted}
 use Rattle.ap_base.specs.Fakes.{fails_at}

@@ -1,6 +1,5 @@
 // Sources and sinks over real files and standard output. They tell no bytes.
-ghost use Rattle.std.specs.Prelude.{◌≡◌, ◌<◌, ◌≤◌, length, [], true, false, is_ok, IfOk};
-ghost use Rattle.ap_base.specs.Counts.{counted, faults_after};
+ghost use Rattle.std.specs.Prelude.{◌≡◌, [], false};
 
 use crate::{Failed, Sink, Source};
 use std::fs;
@@ -55,9 +54,7 @@ impl<R: Files> Source for FileSource<'_, R> {
     ghost absent = { λ _. 0 };
 
     /// Opens the file of this name. Fails where the system does, as where there is no such file.
-    fn open(&mut self, name: &str) -> Result<(), Failed>
-        ensures next { self.new ≡ record { faults = faults_after self.old.faults result; opens = counted self.old.opens 1 } }
-    {
+    fn open(&mut self, name: &str) -> Result<(), Failed> {
         self.opens = self.opens.saturating_add(1);
         match fs::open(self.rt, name) {
             Ok(file) => {
@@ -72,10 +69,7 @@ impl<R: Files> Source for FileSource<'_, R> {
     }
 
     /// Reads from the open file. Fails where the system does, and where no file is open.
-    fn read(&mut self, buf: &mut [u8]) -> Result<usize, Failed>
-        ensures bound { IfOk result (λ n. n ≤ length buf.old) }
-        ensures next { self.new ≡ record self.old { faults = faults_after self.old.faults result } }
-    {
+    fn read(&mut self, buf: &mut [u8]) -> Result<usize, Failed> {
         if let Some(file) = &mut self.file {
             if let Ok(count) = file.read(buf) {
                 return Ok(count);
@@ -125,9 +119,7 @@ impl<R: Files> Sink for FileSink<'_, R> {
     ghost faults = { λ s. s };
 
     /// Makes the file of this name, or empties it where it is there. Fails where the system does.
-    fn open(&mut self, name: &str) -> Result<(), Failed>
-        ensures next { self.new ≡ faults_after self.old result }
-    {
+    fn open(&mut self, name: &str) -> Result<(), Failed> {
         match fs::create(self.rt, name) {
             Ok(file) => {
                 self.file = Some(file);
@@ -141,11 +133,7 @@ impl<R: Files> Sink for FileSink<'_, R> {
     }
 
     /// Writes to the open file. Fails where the system does or takes nothing, and where no file is open.
-    fn write(&mut self, bytes: &[u8]) -> Result<usize, Failed>
-        ensures some { IfOk result (λ n. 0 < n) }
-        ensures bound { IfOk result (λ n. n ≤ length bytes.now) }
-        ensures next { self.new ≡ faults_after self.old result }
-    {
+    fn write(&mut self, bytes: &[u8]) -> Result<usize, Failed> {
         if let Some(file) = &mut self.file {
             if let Ok(count) = file.write(bytes) {
                 if count > 0 {
@@ -192,19 +180,12 @@ impl<W: Write + Drop> Sink for OutSink<W> {
     ghost faults = { λ s. s };
 
     /// Does nothing: the writer is open.
-    fn open(&mut self, _name: &str) -> Result<(), Failed>
-        ensures well { is_ok result ≡ true }
-        ensures next { self.new ≡ self.old }
-    {
+    fn open(&mut self, _name: &str) -> Result<(), Failed> {
         Ok(())
     }
 
     /// Writes to the writer. Fails where it does or takes nothing.
-    fn write(&mut self, bytes: &[u8]) -> Result<usize, Failed>
-        ensures some { IfOk result (λ n. 0 < n) }
-        ensures bound { IfOk result (λ n. n ≤ length bytes.now) }
-        ensures next { self.new ≡ faults_after self.old result }
-    {
+    fn write(&mut self, bytes: &[u8]) -> Result<usize, Failed> {
         match self.to.write(bytes) {
             Ok(count) if count > 0 => Ok(count),
             _ => {
