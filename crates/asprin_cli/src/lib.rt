@@ -8,6 +8,8 @@ mod print;
 mod quit;
 mod run;
 mod stop;
+#[cfg(test)]
+mod tests;
 mod words;
 
 pub use end::{End, Refusal};
