@@ -5,6 +5,9 @@ ghost use Rattle.std.specs.Prelude.{◌↔◌, IfOk, IsTrue};
 ghost use Rattle.ap_eval.specs.AtomSets.{has};
 ghost use Rattle.ap_eval.specs.AnswerSets.{IsAnswerSet};
 
+mod derive;
+mod model;
+
 use ap_syntax::{Program, Text};
 use std::alloc::{AllocError, Global};
 
