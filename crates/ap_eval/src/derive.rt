@@ -1,13 +1,14 @@
 // Which atoms of a set can be derived, one after the other.
-ghost use Rattle.std.specs.Prelude.{◌≡◌, ℕ, ◌<◌, length, IsTrue, IsFalse, IfOk, IfSome, IfNone, ◌↔◌, slice_index_or, position, not, ◌&&◌};
-ghost use Rattle.std.specs.List.{list_any, zip};
+ghost use Rattle.std.specs.Prelude.{◌≡◌, ◌↔◌, ◌&&◌, not, length, position, IsTrue, IfOk};
+ghost use Rattle.std.specs.List.{list_all, list_any, zip};
 ghost use Rattle.std.specs.Str.{bytes_eq};
 ghost use Rattle.ap_syntax.specs.declared.tree.ChoiceElement.{ChoiceElement};
-ghost use Rattle.ap_eval.specs.AtomSets.{has};
+ghost use Rattle.ap_eval.specs.AtomSets.{AtomSet, IsSubset, has};
 ghost use Rattle.ap_eval.specs.Reduct as spec;
 ghost use Rattle.ap_eval.specs.Derivations as derivations;
 
 use ap_syntax::{BodyItem, ChoiceElement, HeadForm, Literal, Statement, Text};
+use std::alloc::{AllocError, Global};
 
 /// Whether an atom is at a marked place.
 fn is_marked(x: &[Text], marks: &[bool], name: &Text) -> bool
@@ -73,4 +74,31 @@ fn next_derivable(statements: &[Statement], x: &[Text], marks: &[bool]) -> Optio
     ensures { result ≡ position (λ place. not place.1 && derivations.is_derivable statements.now (has x.now) (derivations.marked x.now marks.now) place.0) (zip x.now marks.now) }
 {
     x.iter().zip(marks).position(|(atom, marked)| !*marked && is_derivable(statements, x, marks, atom))
+}
+
+/// Marks one derivable place after the other, until there is no further one.
+fn mark_derivable(statements: &[Statement], x: &[Text], marks: &mut [bool])
+    requires { length marks.old ≡ length x.now }
+    ensures closed { derivations.IsClosedWithin statements.now (has x.now) (derivations.marked x.now marks.new) }
+    ensures least { (y : AtomSet) → derivations.IsClosedWithin statements.now (has x.now) y → IsSubset (derivations.marked x.now marks.old) y → IsSubset (derivations.marked x.now marks.new) y }
+{
+    while let Some(place) = next_derivable(statements, x, marks) {
+        marks[place] = true;
+    }
+}
+
+/// Whether every atom is at a marked place.
+fn all_marked(x: &[Text], marks: &[bool]) -> bool
+    ensures { result ≡ list_all (derivations.marked x.now marks.now) x.now }
+{
+    x.iter().all(|name| is_marked(x, marks, name))
+}
+
+/// Whether the atoms of a set can be derived one after the other, where negative literals are read in the whole set.
+pub fn is_founded(alloc: Global, statements: &[Statement], x: &[Text]) -> Result<bool, AllocError>
+    ensures { IfOk result (λ answer. IsTrue answer ↔ derivations.IsFounded statements.now (has x.now)) }
+{
+    let mut marks = vec![in alloc; false; x.len()]?;
+    mark_derivable(statements, x, &mut marks);
+    Ok(all_marked(x, &marks))
 }

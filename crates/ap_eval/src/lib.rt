@@ -8,6 +8,8 @@ ghost use Rattle.ap_eval.specs.AnswerSets.{IsAnswerSet};
 mod derive;
 mod model;
 
+use crate::derive::is_founded;
+use crate::model::is_model;
 use ap_syntax::{Program, Text};
 use std::alloc::{AllocError, Global};
 
@@ -18,6 +20,10 @@ use std::alloc::{AllocError, Global};
 pub fn small_answer_set(alloc: Global, p: &Program, x: &[Text]) -> Result<bool, AllocError>
     ensures { IfOk result (λ answer. IsTrue answer ↔ IsAnswerSet p.now (has x.now)) }
 {
-    let _unused: Vec<u8> = Vec::with_capacity(alloc, p.statements.len())?;
-    Ok(x.is_empty())
+    let statements = p.statements.as_slice();
+    if is_model(statements, x) {
+        is_founded(alloc, statements, x)
+    } else {
+        Ok(false)
+    }
 }
