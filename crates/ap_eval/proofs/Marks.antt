@@ -1,16 +1,16 @@
 -- Marking one derivable place after the other.
-use Rattle.std.proofs.Common.{◌≡◌, ℕ, zero, suc, ◌+◌, ◌<◌, Bool, true, false, not, ◌&&◌, ◌||◌, List, [], ◌∷◌, cond, length, replicate, get_or, refl, sym, ap, ◌∙◌, subst, inl, inr, ◌⊎◌, ⊎_elim, Option, Some, None, arith, slice_set}
-use Rattle.std.specs.Prelude.{All, IsTrue, IsFalse, nat_lt, position, count_by}
-use Rattle.std.specs.List.{list_all, list_any, zip, position_or_len}
+use Rattle.std.proofs.Common.{◌≡◌, ℕ, zero, suc, ◌+◌, ◌<◌, Bool, true, false, not, ◌&&◌, List, [], ◌∷◌, cond, length, replicate, get_or, refl, sym, ap, ◌∙◌, subst, inl, inr, ◌⊎◌, ⊎_elim, Some, None, arith, slice_set}
+use Rattle.std.specs.Prelude.{IsTrue, nat_lt, position, count_by}
+use Rattle.std.specs.List.{list_any, zip, position_or_len}
 use Rattle.std.specs.Str.{bytes_eq}
-use Rattle.std.proofs.lemmas.Bool.{and_parts, and_from, or_cases, or_left, or_right, or_parts, cases_Bool, false≢true, true≢false, not-true, ltb-false}
+use Rattle.std.proofs.lemmas.Bool.{and_parts, and_from, or_cases, or_left, or_right, or_parts, false≢true, not-true, ltb-false}
 use Rattle.std.proofs.lemmas.List.Folds.{list_any_none, list_any_at}
 use Rattle.std.proofs.lemmas.List.Sums.{fails_before_first, sum_by-set}
 use Rattle.std.proofs.lemmas.List.Quantifiers.{position-Some}
 use Rattle.std.proofs.lemmas.Slice.Zip.{get_or-zip, length-zip}
 use Rattle.ap_syntax.specs.declared.tree.Statement.{Statement}
 use Rattle.ap_eval.specs.AtomSets.{AtomSet, IsSubset, has}
-use Rattle.ap_eval.specs.Derivations.{is_derivable, IsClosedWithin, IsFounded, marked}
+use Rattle.ap_eval.specs.Derivations.{is_derivable, IsClosedWithin, marked}
 use Rattle.ap_eval.proofs.Reading.{same_name, own_name, more_derivable}
 
 -- one more mark adds the name at its place
@@ -76,10 +76,10 @@ module _ (statements : List Statement) (names : List (List ℕ)) (marks : List B
     least_kept y w s a h = ⊎_elim
         (λ before. s a before)
         (λ same.
-            let here = get_or names i [] in
-            let member : IsTrue (has names here) = list_any_at (λ b. bytes_eq b here) names i [] place_in (own_name here) in
-            let derived = (and_parts (not (get_or marks i false)) (is_derivable statements (has names) (marked names marks) here) open_at).1 in
-            subst (λ b. IsTrue (y b)) (same_name here a same) (w here member (more_derivable (has names) (marked names marks) y s statements here derived)))
+        let here = get_or names i [] in
+        let member : IsTrue (has names here) = list_any_at (λ b. bytes_eq b here) names i [] place_in (own_name here) in
+        let derived = (and_parts (not (get_or marks i false)) (is_derivable statements (has names) (marked names marks) here) open_at).1 in
+        subst (λ b. IsTrue (y b)) (same_name here a same) (w here member (more_derivable (has names) (marked names marks) y s statements here derived)))
         (one_more names marks i a [] h)
 
     -- and one mark fewer is missing

@@ -1,10 +1,10 @@
 -- The reduct by x, read on the program's own rules.
-use Rattle.std.proofs.Common.{◌≡◌, ℕ, Bool, true, false, not, ◌&&◌, ◌||◌, List, [], ◌∷◌, ◌++◌, map, cond, refl, sym, ap, ◌∙◌, subst, inl, inr, ⊎_elim, Option, Some, None}
-use Rattle.std.specs.Prelude.{All, IsTrue, IsFalse, filter}
-use Rattle.std.specs.List.{filter_map, flat_map, list_all, list_any, AllByRecursion}
+use Rattle.std.proofs.Common.{◌≡◌, ℕ, Bool, true, false, not, ◌&&◌, ◌||◌, List, [], ◌∷◌, ◌++◌, map, cond, refl, sym, ap, ◌∙◌, subst, ⊎_elim}
+use Rattle.std.specs.Prelude.{IsTrue, IsFalse, filter}
+use Rattle.std.specs.List.{filter_map, flat_map, list_all, AllByRecursion}
 use Rattle.std.specs.Str.{bytes_eq}
-use Rattle.std.proofs.lemmas.Bool.{and_parts, and_from, or_cases, or_left, or_right, cases_Bool, false≢true, not_from_false, not-true}
-use Rattle.std.proofs.lemmas.List.Elements.{All-from_recursion, recursion_from_All, All-head, All-tail, All-cons, All-nil}
+use Rattle.std.proofs.lemmas.Bool.{and_parts, and_from, or_cases, or_left, or_right, false≢true, not_from_false, not-true}
+use Rattle.std.proofs.lemmas.List.Elements.{All-from_recursion, recursion_from_All}
 use Rattle.std.proofs.lemmas.List.Folds.{list_all-map}
 use Rattle.std.proofs.lemmas.Slice.Eq.{bytes_eq-Decides}
 use Rattle.ap_syntax.specs.declared.tree.BodyItem.{BodyItem}
@@ -20,7 +20,7 @@ use Rattle.ap_syntax.specs.declared.tree.Statement.TheVariants.{Rule, Preference
 use Rattle.ap_eval.specs.AtomSets.{AtomSet, IsSubset, has}
 use Rattle.ap_eval.specs.Reduct.{Definite, rule_of, rules_of, literal_of, literal_true, body_true, not_refuted, positive_of, element_name, heads_in, reduced, reduct}
 use Rattle.ap_eval.specs.AnswerSets.{IsClosed, IsAnswerSet}
-use Rattle.ap_eval.specs.Derivations.{has_head, is_satisfied, literal_by, body_by, names, derives, is_derivable, IsClosedWithin, IsFounded}
+use Rattle.ap_eval.specs.Derivations.{has_head, is_satisfied, body_by, names, derives, is_derivable, IsClosedWithin, IsFounded}
 
 -- ---- names
 
@@ -222,9 +222,9 @@ pub obeys_from_within : (x y : AtomSet) (statements : List Statement) → AllByR
 obeys_from_within x y [] o w = tt
 obeys_from_within x y (Rule rule ∷ statements) o w = (
   λ t a h.
-    let i : IsTrue (x a) = o.0 (more_atoms x (both x y) x (in_first x y) rule.body t) a h in
-    let d : IsTrue (derives x y a (Rule rule)) = and_from (names a rule.head) (body_by x y rule.body) (head_names x a rule.head h) (more_atoms x (both x y) y (in_second x y) rule.body t) in
-    and_from (x a) (y a) i (w a i (or_left (derives x y a (Rule rule)) (is_derivable statements x y a) d)),
+      let i : IsTrue (x a) = o.0 (more_atoms x (both x y) x (in_first x y) rule.body t) a h in
+      let d : IsTrue (derives x y a (Rule rule)) = and_from (names a rule.head) (body_by x y rule.body) (head_names x a rule.head h) (more_atoms x (both x y) y (in_second x y) rule.body t) in
+      and_from (x a) (y a) i (w a i (or_left (derives x y a (Rule rule)) (is_derivable statements x y a) d)),
   obeys_from_within x y statements o.1 (λ a i d. w a i (or_right (derives x y a (Rule rule)) (is_derivable statements x y a) d)),
 )
 obeys_from_within x y (Preference preference ∷ statements) o w = (tt, obeys_from_within x y statements o.1 w)
@@ -235,7 +235,7 @@ pub more_derivable : (x y z : AtomSet) → IsSubset y z → (statements : List S
 more_derivable x y z s [] a d = d
 more_derivable x y z s (Rule rule ∷ statements) a d = ⊎_elim
     (λ h. let parts = and_parts (names a rule.head) (body_by x y rule.body) h in
-        or_left (derives x z a (Rule rule)) (is_derivable statements x z a) (and_from (names a rule.head) (body_by x z rule.body) parts.0 (more_atoms x y z s rule.body parts.1)))
+    or_left (derives x z a (Rule rule)) (is_derivable statements x z a) (and_from (names a rule.head) (body_by x z rule.body) parts.0 (more_atoms x y z s rule.body parts.1)))
     (λ t. or_right (derives x z a (Rule rule)) (is_derivable statements x z a) (more_derivable x y z s statements a t))
     (or_cases (derives x y a (Rule rule)) (is_derivable statements x y a) d)
 more_derivable x y z s (Preference preference ∷ statements) a d = more_derivable x y z s statements a d

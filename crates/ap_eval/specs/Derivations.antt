@@ -1,5 +1,5 @@
 -- Reading a program's own rules in place of its reduct: which sets satisfy them, and which atoms follow from which.
-use Rattle.std.specs.Prelude.{◌≡◌, ℕ, Bool, true, false, not, ◌&&◌, ◌||◌, List, IsTrue}
+use Rattle.std.specs.Prelude.{ℕ, Bool, true, false, not, ◌&&◌, ◌||◌, List, IsTrue}
 use Rattle.std.specs.List.{list_all, list_any, zip}
 use Rattle.std.specs.Str.{bytes_eq}
 use Rattle.ap_syntax.specs.declared.tree.BodyItem.{BodyItem}

@@ -14,7 +14,9 @@ use std::alloc::{AllocError, Global};
 fn is_marked(x: &[Text], marks: &[bool], name: &Text) -> bool
     ensures { result ≡ derivations.marked x.now marks.now name.now }
 {
-    x.iter().zip(marks).any(|(atom, marked)| *marked && *atom == *name)
+    x.iter()
+        .zip(marks)
+        .any(|(atom, marked)| *marked && *atom == *name)
 }
 
 /// Whether a part of a body is true, an atom where it is marked.
@@ -66,14 +68,17 @@ fn derives(x: &[Text], marks: &[bool], statement: &Statement, name: &Text) -> bo
 fn is_derivable(statements: &[Statement], x: &[Text], marks: &[bool], name: &Text) -> bool
     ensures { result ≡ derivations.is_derivable statements.now (has x.now) (derivations.marked x.now marks.now) name.now }
 {
-    statements.iter().any(|statement| derives(x, marks, statement, name))
+    statements
+        .iter()
+        .any(|statement| derives(x, marks, statement, name))
 }
 
 /// The first place that is not marked, and whose atom some rule derives from the marked ones.
 fn next_derivable(statements: &[Statement], x: &[Text], marks: &[bool]) -> Option<usize>
     ensures { result ≡ position (λ place. not place.1 && derivations.is_derivable statements.now (has x.now) (derivations.marked x.now marks.now) place.0) (zip x.now marks.now) }
 {
-    x.iter().zip(marks).position(|(atom, marked)| !*marked && is_derivable(statements, x, marks, atom))
+    x.iter().zip(marks).position(|(atom, marked)| !*marked
+        && is_derivable(statements, x, marks, atom))
 }
 
 /// Marks one derivable place after the other, until there is no further one.

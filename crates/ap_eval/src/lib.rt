@@ -7,6 +7,8 @@ ghost use Rattle.ap_eval.specs.AnswerSets.{IsAnswerSet};
 
 mod derive;
 mod model;
+#[cfg(test)]
+mod tests;
 
 use crate::derive::is_founded;
 use crate::model::is_model;

@@ -49,5 +49,7 @@ fn is_satisfied(x: &[Text], statement: &Statement) -> bool
 pub fn is_model(statements: &[Statement], x: &[Text]) -> bool
     ensures { result ≡ list_all (derivations.is_satisfied (has x.now)) statements.now }
 {
-    statements.iter().all(|statement| is_satisfied(x, statement))
+    statements
+        .iter()
+        .all(|statement| is_satisfied(x, statement))
 }

@@ -1,8 +1,7 @@
 use Rattle.std.proofs.Common.{◌≡◌, List, Bool, false, length, replicate, sym, ap, ◌∙◌, subst}
-use Rattle.std.specs.Prelude.{IsTrue}
 use Rattle.std.specs.List.{list_all}
 use Rattle.std.proofs.lemmas.List.{take_at}
-use Rattle.ap_eval.specs.AtomSets.{AtomSet, IsSubset, has}
+use Rattle.ap_eval.specs.AtomSets.{AtomSet, IsSubset}
 use Rattle.ap_eval.specs.Derivations.{marked}
 use Rattle.ap_eval.proofs.Marks.{none_marked}
 use Rattle.ap_eval.proofs.Reading.{from_subset, to_subset}

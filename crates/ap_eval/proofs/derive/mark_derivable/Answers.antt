@@ -1,4 +1,4 @@
-use Rattle.std.proofs.Common.{◌≡◌, sym, ◌∙◌}
+use Rattle.std.proofs.Common.{sym, ◌∙◌}
 use Rattle.ap_eval.proofs.Marks.{closed_at_end, place_in_marks, least_kept, fewer}
 use Rattle.ap_eval.proofs.derive.mark_derivable.Goals as goal
 

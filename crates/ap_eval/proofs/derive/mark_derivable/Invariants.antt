@@ -1,4 +1,4 @@
-use Rattle.std.proofs.Common.{◌≡◌, length, not}
+use Rattle.std.proofs.Common.{not}
 use Rattle.std.specs.Prelude.{count_by}
 use Rattle.ap_eval.specs.AtomSets.{AtomSet, IsSubset, has}
 use Rattle.ap_eval.specs.Derivations.{IsClosedWithin, marked}
