@@ -1,9 +1,9 @@
 -- How the lexer reads the token at the front of a text, as functions on bytes.
-use Rattle.std.specs.Prelude.{◌≡◌, ℕ, ◌==◌, List, [], ◌∷◌, Option, None, Some, Result, Ok, Err, codes, drop, take_while, if◌then◌else◌}
-use Rattle.std.specs.List.{prefix_len}
+use Rattle.std.specs.Prelude.{◌≡◌, ℕ, ◌<◌, ◌==◌, List, [], ◌∷◌, length, IsTrue, Option, None, Some, Result, Ok, Err, codes, drop, take_while, if◌then◌else◌}
+use Rattle.std.specs.List.{list_all, prefix_len}
 use Rattle.std.specs.Str.{bytes_eq}
 use Rattle.std.specs.Borrow.{Bor}
-use Rattle.ap_parse.specs.Tokens.{is_small_letter, is_word_byte, begins_identifier}
+use Rattle.ap_parse.specs.Tokens.{Begins, HasTokens, begins_identifier, is_blank, is_small_letter, is_word_byte}
 use Rattle.ap_parse.specs.declared.fault.SmallFault.{SmallFault}
 use Rattle.ap_parse.specs.declared.fault.SmallFault.TheVariants.{Syntax, Memory}
 use Rattle.ap_parse.specs.declared.token.Token.{Token}
@@ -74,3 +74,16 @@ abbrev pub Reads : Result (Token × Bor (List ℕ)) SmallFault → Option Front 
 Reads (Ok found) front = front ≡ Some (found.0, found.1.now)
 Reads (Err Syntax) front = front ≡ None
 Reads (Err Memory) front = Unit {0}
+
+-- This is the next token of the text, before this rest: no tokens of the text begin otherwise.
+pub record IsNext (text : List ℕ) (token : Token) (rest : List ℕ) : Type 0 where
+  pub begins : Begins text token rest
+  pub only : (others : List Token) → HasTokens text others → (more : List Token) × (others ≡ token ∷ more) × HasTokens rest more
+  pub shorter : length rest < length text
+
+-- A function returned the next token of the text, or nothing where there are blanks alone, unless memory ran out.
+abbrev pub ReadsNext : List ℕ → Result (Option (Token × Bor (List ℕ))) SmallFault → Type 0
+ReadsNext text (Ok None) = IsTrue (list_all is_blank text)
+ReadsNext text (Ok (Some next)) = IsNext text next.0 next.1.now
+ReadsNext text (Err Syntax) = (others : List Token) → HasTokens text others → ⊥
+ReadsNext text (Err Memory) = Unit {0}

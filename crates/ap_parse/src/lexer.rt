@@ -1,7 +1,7 @@
 // From the bytes of a text to its tokens.
-ghost use Rattle.std.specs.Prelude.{◌≡◌, ◌≢◌, List, IfOk, IsTrue, drop};
+ghost use Rattle.std.specs.Prelude.{◌≡◌, ◌≢◌, ◌≤◌, List, IfOk, IsTrue, drop, length};
 ghost use Rattle.std.specs.List.{list_all, prefix_len};
-ghost use Rattle.ap_parse.specs.LexFront.{Reads, after_colon, after_number_sign, directive, sign, token_at, word_at};
+ghost use Rattle.ap_parse.specs.LexFront.{Reads, ReadsNext, after_colon, after_number_sign, directive, sign, token_at, word_at};
 ghost use Rattle.ap_parse.specs.Tokens.{HasTokens, begins_identifier, is_blank, is_small_letter, is_word_byte};
 ghost use Rattle.ap_parse.specs.declared.token.Token.{Token as TokenSpec};
 
@@ -18,20 +18,31 @@ pub fn tokens(alloc: Global, text: &[u8]) -> Result<Vec<Token>, SmallFault>
     ensures syntax { result ≡ Err SmallFault.Syntax → (others : List TokenSpec) → HasTokens text.now others → ⊥ }
 {
     let mut found = Vec::new(alloc);
-    let mut rest = skip_blanks(text);
-    while !rest.is_empty() {
-        let (token, after) = first_token(alloc, rest)?;
+    let mut rest = text;
+    while let Some((token, after)) = next_token(alloc, rest)? {
         found.push(token).map_err(|_| SmallFault::Memory)?;
-        rest = skip_blanks(after);
+        rest = after;
     }
     Ok(found)
+}
+
+// The next token of a text and what follows it, or nothing where only blanks are left.
+fn next_token(alloc: Global, text: &[u8]) -> Result<Option<(Token, &[u8])>, SmallFault>
+    ensures { ReadsNext text.now result }
+{
+    let text = skip_blanks(text);
+    if text.is_empty() {
+        return Ok(None);
+    }
+    Ok(Some(first_token(alloc, text)?))
 }
 
 // What follows the blanks at the front.
 fn skip_blanks(text: &[u8]) -> &[u8]
     ensures { result.now ≡ drop (prefix_len is_blank text.now) text.now }
 {
-    &text[blank_len(text)..]
+    let (_blanks, rest) = text.split_at(blank_len(text));
+    rest
 }
 
 // The token at the front of a text that begins with no blank, and what follows it.
@@ -141,21 +152,24 @@ fn text_of(alloc: Global, word: &[u8]) -> Result<Text, SmallFault>
 
 // How many blanks stand at the front.
 fn blank_len(text: &[u8]) -> usize
-    ensures { result ≡ prefix_len is_blank text.now }
+    ensures len { result ≡ prefix_len is_blank text.now }
+    ensures within { result ≤ length text.now }
 {
     text.iter().take_while(|byte| is_blank(**byte)).count()
 }
 
 // How many letters from a to z stand at the front.
 fn letter_len(text: &[u8]) -> usize
-    ensures { result ≡ prefix_len is_small_letter text.now }
+    ensures len { result ≡ prefix_len is_small_letter text.now }
+    ensures within { result ≤ length text.now }
 {
     text.iter().take_while(|byte| is_small_letter(**byte)).count()
 }
 
 // How many bytes of a word stand at the front.
 fn word_len(text: &[u8]) -> usize
-    ensures { result ≡ prefix_len is_word_byte text.now }
+    ensures len { result ≡ prefix_len is_word_byte text.now }
+    ensures within { result ≤ length text.now }
 {
     text.iter().take_while(|byte| is_word_byte(**byte)).count()
 }

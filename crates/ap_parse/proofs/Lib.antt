@@ -1,0 +1,2 @@
+mod LexingFronts
+mod LexingWords
