@@ -99,3 +99,37 @@ pub next_fault : (text rest : List ℕ) (fault : SmallFault) → rest ≡ rest_o
 next_fault text rest Syntax e more none =
     nothing_found text (ap token_at (sym e) ∙ none) (λ empty. eqb-false (length rest) 0 more (ap length (e ∙ empty)))
 next_fault text rest Memory e more none = tt
+
+-- ---- the tokens found so far, before a rest
+
+pub record SoFar (text rest : List ℕ) (tokens : List Token) : Type 0 where
+  pub all : (more : List Token) → HasTokens rest more → HasTokens text (tokens ++ more)
+  pub only : (others : List Token) → HasTokens text others → (more : List Token) × (others ≡ tokens ++ more) × HasTokens rest more
+
+pub so_far_none : (text : List ℕ) → SoFar text text []
+so_far_none text = record { all = λ more has. has; only = λ others has. (others, refl, has) }
+
+pub so_far_more : (text rest after : List ℕ) (tokens : List Token) (token : Token)
+    → SoFar text rest tokens → IsNext rest token after → SoFar text after (tokens ++ token ∷ [])
+so_far_more text rest after tokens token so_far next = record {
+  all = λ more has. rw append_assoc (so_far.all (token ∷ more) (after, next.begins, has));
+  only = λ others has.
+      let before = so_far.only others has in
+      let here = next.only before.0 before.2 in
+      (here.0, before.1 ∙ ap (λ more. tokens ++ more) here.1 ∙ sym (append_assoc tokens (token ∷ []) here.0), here.2);
+}
+
+pub all_found : (text rest : List ℕ) (tokens : List Token) → SoFar text rest tokens → list_all is_blank rest ≡ true → HasTokens text tokens
+all_found text rest tokens so_far blank = rw append-nil at (so_far.all [] blank)
+
+pub no_others : (text rest : List ℕ) (tokens : List Token) → SoFar text rest tokens → list_all is_blank rest ≡ true
+    → (others : List Token) → HasTokens text others → others ≡ tokens
+no_others text rest tokens so_far blank others has =
+    let before = so_far.only others has in
+    before.1 ∙ ap (λ more. tokens ++ more) (nothing_left rest blank before.0 before.2) ∙ append-nil tokens
+
+pub none_at_all : (text rest : List ℕ) (tokens : List Token) → SoFar text rest tokens → ((others : List Token) → HasTokens rest others → ⊥)
+    → (others : List Token) → HasTokens text others → ⊥
+none_at_all text rest tokens so_far none others has =
+    let before = so_far.only others has in
+    none before.0 before.2
