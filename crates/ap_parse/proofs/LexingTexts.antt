@@ -95,7 +95,7 @@ nothing_left text blank (other ∷ others) has =
     let same : None ≡ Some next = sym nothing_at_end ∙ ap token_at (sym (nothing_behind_blanks text blank)) ∙ begins_found text other has.0 has.1 in
     absurd cc
 
-pub next_fault : (text rest : List ℕ) (fault : SmallFault) → rest ≡ rest_of text → eqb (length rest) 0 ≡ false → Reads (Err fault) (token_at rest) → ReadsNext text (Err fault)
+pub next_fault : (text rest : List ℕ) (fault : SmallFault) → rest ≡ rest_of text → eqb (length rest) 0 ≡ false → Reads (token_at rest) (Err fault) → ReadsNext text (Err fault)
 next_fault text rest Syntax e more none =
     nothing_found text (ap token_at (sym e) ∙ none) (λ empty. eqb-false (length rest) 0 more (ap length (e ∙ empty)))
 next_fault text rest Memory e more none = tt

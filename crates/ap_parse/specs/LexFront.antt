@@ -70,10 +70,10 @@ token_at (b ∷ bs) =
     else sign_or_word (b ∷ bs) bs (sign b)
 
 -- A function returned this, unless memory ran out.
-abbrev pub Reads : Result (Token × Bor (List ℕ)) SmallFault → Option Front → Type 0
-Reads (Ok found) front = front ≡ Some (found.0, found.1.now)
-Reads (Err Syntax) front = front ≡ None
-Reads (Err Memory) front = Unit {0}
+abbrev pub Reads : Option Front → Result (Token × Bor (List ℕ)) SmallFault → Type 0
+Reads front (Ok found) = front ≡ Some (found.0, found.1.now)
+Reads front (Err Syntax) = front ≡ None
+Reads front (Err Memory) = Unit {0}
 
 -- This is the next token of the text, before this rest: no tokens of the text begin otherwise.
 pub record IsNext (text : List ℕ) (token : Token) (rest : List ℕ) : Type 0 where

@@ -48,14 +48,14 @@ fn skip_blanks(text: &[u8]) -> &[u8]
 // The token at the front of a text that begins with no blank, and what follows it.
 #[tactic(auto, unfolding(crate::specs::LexFront::token_at))]
 fn first_token(alloc: Global, text: &[u8]) -> Result<(Token, &[u8]), SmallFault>
-    ensures { Reads result (token_at text.now) }
+    ensures { Reads (token_at text.now) result }
 {
     let Some((first, rest)) = text.split_first() else {
         return Err(SmallFault::Syntax);
     };
     match *first {
-        b':' => rest_of_if(rest),
-        b'#' => rest_of_directive(rest),
+        b':' => after_colon(rest),
+        b'#' => after_number_sign(rest),
         byte => match sign(byte) {
             Some(token) => Ok((token, rest)),
             None => word(alloc, text),
@@ -79,9 +79,9 @@ fn sign(byte: u8) -> Option<Token>
     }
 }
 
-// The sign `:-`, from what follows its colon.
-fn rest_of_if(text: &[u8]) -> Result<(Token, &[u8]), SmallFault>
-    ensures { Reads result (after_colon text.now) }
+// The token whose colon stands before the text: the sign `:-`.
+fn after_colon(text: &[u8]) -> Result<(Token, &[u8]), SmallFault>
+    ensures { Reads (after_colon text.now) result }
 {
     match text.split_first() {
         Some((b'-', rest)) => Ok((Token::If, rest)),
@@ -89,9 +89,9 @@ fn rest_of_if(text: &[u8]) -> Result<(Token, &[u8]), SmallFault>
     }
 }
 
-// A directive, from what follows its number sign.
-fn rest_of_directive(text: &[u8]) -> Result<(Token, &[u8]), SmallFault>
-    ensures { Reads result (after_number_sign text.now) }
+// The token whose number sign stands before the text: a directive, with all letters that follow.
+fn after_number_sign(text: &[u8]) -> Result<(Token, &[u8]), SmallFault>
+    ensures { Reads (after_number_sign text.now) result }
 {
     let (name, rest) = text.split_at(letter_len(text));
     match directive(name) {
@@ -113,9 +113,9 @@ fn directive(name: &[u8]) -> Option<Token>
     }
 }
 
-// A word: `not` or an identifier.
+// The word at the front of a text: `not` or an identifier.
 fn word(alloc: Global, text: &[u8]) -> Result<(Token, &[u8]), SmallFault>
-    ensures { Reads result (word_at text.now) }
+    ensures { Reads (word_at text.now) result }
 {
     if !begins_identifier(text) {
         return Err(SmallFault::Syntax);
