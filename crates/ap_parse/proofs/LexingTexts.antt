@@ -1,10 +1,10 @@
 -- The tokens of a text, one after another.
-use Rattle.std.proofs.Common.{◌≡◌, ℕ, ◌+◌, ◌<◌, ◌≤◌, Bool, true, false, List, [], ◌∷◌, ◌++◌, length, take, drop, refl, sym, ap, ◌∙◌, subst, Option, None, Some, Ok, Err, eqb, arith}
+use Rattle.std.proofs.Common.{◌≡◌, ℕ, ◌+◌, ◌<◌, ◌≤◌, true, false, List, [], ◌∷◌, ◌++◌, length, take, drop, refl, sym, ap, ◌∙◌, subst, None, Some, Err, eqb, arith}
 use Rattle.std.proofs.lemmas.List.{append-nil, append_assoc, take-append-drop, length-append, length-drop}
 use Rattle.std.proofs.lemmas.Bool.{eqb-false}
 use Rattle.std.specs.List.{prefix_len, list_all}
 use Rattle.ap_parse.specs.LexFront.{Front, IsNext, Reads, ReadsNext, token_at}
-use Rattle.ap_parse.specs.Tokens.{Begins, HasTokens, begins_with, is_blank, spelling}
+use Rattle.ap_parse.specs.Tokens.{Begins, HasTokens, is_blank, spelling}
 use Rattle.ap_parse.specs.declared.fault.SmallFault.{SmallFault}
 use Rattle.ap_parse.specs.declared.fault.SmallFault.TheVariants.{Syntax, Memory}
 use Rattle.ap_parse.specs.declared.token.Token.{Token}
@@ -43,7 +43,7 @@ begins_found : (text : List ℕ) (token : Token) (rest : List ℕ) → Begins te
 begins_found text token rest begins =
     let regrouped : text ≡ begins.blanks ++ (spelling token ++ rest) = begins.spelled ∙ append_assoc begins.blanks (spelling token) rest in
     let behind : rest_of text ≡ spelling token ++ rest =
-        ap rest_of regrouped ∙ drop_front is_blank begins.blanks (spelling token ++ rest) begins.blank (begins_with_no_blank token rest begins.valid) in
+    ap rest_of regrouped ∙ drop_front is_blank begins.blanks (spelling token ++ rest) begins.blank (begins_with_no_blank token rest begins.valid) in
     ap token_at behind ∙ found token rest begins.valid begins.longest
 
 nothing_at_end : token_at [] ≡ None

@@ -1,7 +1,7 @@
 -- The token at the front of a text, as the lexer finds it, is the one that is spelled there.
 use Rattle.std.proofs.Common.{◌≡◌, ℕ, ◌<◌, ◌⊎◌, Bool, true, false, not, cond, ◌&&◌, eqb, List, [], ◌∷◌, ◌++◌, length, take, drop, refl, sym, ap, ◌∙◌, subst, inl, inr, ⊎_elim, Option, None, Some, codes, lit<, arith}
 use Rattle.std.proofs.lemmas.Bool.{and_parts, and_from, not-true, not_from_false, eqb-true}
-use Rattle.std.proofs.lemmas.List.{take-append-drop, length-append}
+use Rattle.std.proofs.lemmas.List.{take-append-drop}
 use Rattle.std.proofs.lemmas.Slice.Eq.{bytes_eq-Decides}
 use Rattle.std.specs.List.{prefix_len, list_all}
 use Rattle.std.specs.Str.{bytes_eq}
@@ -98,7 +98,7 @@ sign_picked : (b k : ℕ) (token : Token) (others : Option Token)
     → (t : Token) → cond (eqb b k) (Some token) others ≡ Some t → IsSpelled anything (b ∷ []) t
 sign_picked b k token others spelled valid longest other t h =
     ⊎_elim (λ w. let same : token ≡ t = cc in
-        subst (IsSpelled anything (b ∷ [])) same (record { spelled = ap (λ x. x ∷ []) (eqb-true b k w.0) ∙ spelled; valid = valid; longest = λ rest _. longest rest }))
+    subst (IsSpelled anything (b ∷ [])) same (record { spelled = ap (λ x. x ∷ []) (eqb-true b k w.0) ∙ spelled; valid = valid; longest = λ rest _. longest rest }))
     (λ w. other t w.1)
     (chosen (eqb b k) (Some token) others (Some t) h)
 
@@ -124,7 +124,7 @@ colon_front : (bs : List ℕ) (f : Front) → after_colon bs ≡ Some f → IsFr
 colon_front [] f h = absurd cc
 colon_front (b ∷ bs) f h =
     ⊎_elim (λ w. at_front (58 ∷ b ∷ bs) (If, bs) f w.1
-        (record { spelled = ap (λ x. 58 ∷ x ∷ bs) (eqb-true b 45 w.0); valid = refl; longest = refl }))
+    (record { spelled = ap (λ x. 58 ∷ x ∷ bs) (eqb-true b 45 w.0); valid = refl; longest = refl }))
     (λ w. absurd (none_is_some f w.1))
     (chosen (eqb b 45) (Some (If, bs)) None (Some f) h)
 
@@ -135,8 +135,8 @@ directive_picked : (name key : List ℕ) (token : Token) (others : Option Token)
     → (t : Token) → cond (bytes_eq name key) (Some token) others ≡ Some t → IsSpelled is_small_letter (35 ∷ name) t
 directive_picked name key token others spelled valid longest other t h =
     ⊎_elim (λ w. let same : token ≡ t = cc in
-        subst (IsSpelled is_small_letter (35 ∷ name)) same
-        (record { spelled = ap (λ bs. 35 ∷ bs) ((bytes_eq-Decides name key).0 w.0) ∙ spelled; valid = valid; longest = longest }))
+    subst (IsSpelled is_small_letter (35 ∷ name)) same
+    (record { spelled = ap (λ bs. 35 ∷ bs) ((bytes_eq-Decides name key).0 w.0) ∙ spelled; valid = valid; longest = longest }))
     (λ w. other t w.1)
     (chosen (bytes_eq name key) (Some token) others (Some t) h)
 
@@ -159,16 +159,17 @@ directive_front bs f h = directive_front_of bs _ f refl h
 -- a word
 word_spelled : (name : List ℕ) → begins_identifier name ≡ true → list_all is_word_byte name ≡ true → IsSpelled is_word_byte name (word name)
 word_spelled name begins passes =
-    elim (bytes_eq name (codes "not")) as (λ v. bytes_eq name (codes "not") ≡ v → IsSpelled is_word_byte name (cond v Not (Ident name)))
-    [ true ↦ λ e. record { spelled = (bytes_eq-Decides name (codes "not")).0 e; valid = refl; longest = λ rest stops. not_from_false _ stops }
-    | false ↦ λ e. record { spelled = refl; valid = and_from _ _ (and_from _ _ begins passes) (not_from_false _ e); longest = λ rest stops. not_from_false _ stops } ] refl
+    elim (bytes_eq name (codes "not")) as (λ v. bytes_eq name (codes "not") ≡ v → IsSpelled is_word_byte name (cond v Not (Ident name))) [
+      | true ↦ λ e. record { spelled = (bytes_eq-Decides name (codes "not")).0 e; valid = refl; longest = λ rest stops. not_from_false _ stops }
+      | false ↦ λ e. record { spelled = refl; valid = and_from _ _ (and_from _ _ begins passes) (not_from_false _ e); longest = λ rest stops. not_from_false _ stops }
+    ] refl
 
 word_front : (bs : List ℕ) (f : Front) → word_at bs ≡ Some f → IsFront bs f.0 f.1
 word_front bs f h =
     let name = take (prefix_len is_word_byte bs) bs in
     let rest = drop (prefix_len is_word_byte bs) bs in
     ⊎_elim (λ w. at_front bs (word name, rest) f w.1
-        (front_of is_word_byte name bs rest (word name) (word_spelled name (begins_front bs w.0) (front_passes is_word_byte bs)) (sym (take-append-drop (prefix_len is_word_byte bs) bs)) (rest_stops is_word_byte bs)))
+    (front_of is_word_byte name bs rest (word name) (word_spelled name (begins_front bs w.0) (front_passes is_word_byte bs)) (sym (take-append-drop (prefix_len is_word_byte bs) bs)) (rest_stops is_word_byte bs)))
     (λ w. absurd (none_is_some f w.1))
     (chosen (begins_identifier bs) (Some (word name, rest)) None (Some f) h)
 
@@ -178,8 +179,8 @@ spelled [] f h = absurd (none_is_some f h)
 spelled (b ∷ bs) f h =
     ⊎_elim (λ w. rw (eqb-true b 58 w.0) (colon_front bs f w.1))
     (λ v. ⊎_elim (λ w. rw (eqb-true b 35 w.0) (directive_front bs f w.1))
-        (λ w. sign_front b bs _ f refl w.1 (word_front (b ∷ bs)))
-        (chosen (eqb b 35) (after_number_sign bs) (sign_or_word (b ∷ bs) bs (sign b)) (Some f) v.1))
+    (λ w. sign_front b bs _ f refl w.1 (word_front (b ∷ bs)))
+    (chosen (eqb b 35) (after_number_sign bs) (sign_or_word (b ∷ bs) bs (sign b)) (Some f) v.1))
     (chosen (eqb b 58) (after_colon bs) (cond (eqb b 35) (after_number_sign bs) (sign_or_word (b ∷ bs) bs (sign b))) (Some f) h)
 
 -- ---- the spelling of a token

@@ -1,5 +1,5 @@
 -- Bytes that words are made of.
-use Rattle.std.proofs.Common.{◌≡◌, ℕ, ◌+◌, ◌<◌, ◌≤◌, Bool, true, false, ◌||◌, cond, eqb, leb, List, [], ◌∷◌, ◌++◌, take, refl, sym, subst, None, arith}
+use Rattle.std.proofs.Common.{◌≡◌, ℕ, ◌+◌, ◌<◌, ◌≤◌, true, false, cond, eqb, leb, List, [], ◌∷◌, ◌++◌, take, refl, sym, subst, None, arith}
 use Rattle.std.proofs.Math.Numerals.{one-add}
 use Rattle.std.proofs.lemmas.Bool.{and_parts, or_left, or_right, eqb-true, leb-true}
 use Rattle.std.proofs.lemmas.Bool.Decides.{nat_tests}
@@ -40,9 +40,10 @@ pub begins_front : (bs : List ℕ) → begins_identifier bs ≡ true → begins_
 begins_front [] h = h
 begins_front (b ∷ bs) h =
     elim (eqb b 95) as (λ v. eqb b 95 ≡ v → cond v (begins_identifier bs) (is_small_letter b) ≡ true
-      → begins_identifier (take (cond (is_word_byte b) (1 + prefix_len is_word_byte bs) 0) (b ∷ bs)) ≡ true)
-    [ true ↦ λ e i. rw (underscore_is_word_byte b e, one-add, e) (begins_front bs i)
-    | false ↦ λ e i. rw (letter_is_word_byte b i, one-add, e) i ] refl h
+    → begins_identifier (take (cond (is_word_byte b) (1 + prefix_len is_word_byte bs) 0) (b ∷ bs)) ≡ true) [
+      | true ↦ λ e i. rw (underscore_is_word_byte b e, one-add, e) (begins_front bs i)
+      | false ↦ λ e i. rw (letter_is_word_byte b i, one-add, e) i
+    ] refl h
 
 -- a name begins with an underscore or a letter from a to z
 pub record StartsWord (b : ℕ) : Type 0 where
@@ -66,6 +67,7 @@ at_letter b low high = record {
 
 pub starts_word : (b : ℕ) (bs : List ℕ) → begins_identifier (b ∷ bs) ≡ true → StartsWord b
 starts_word b bs h =
-    elim (eqb b 95) as (λ v. eqb b 95 ≡ v → cond v (begins_identifier bs) (is_small_letter b) ≡ true → StartsWord b)
-    [ true ↦ λ e i. subst StartsWord (sym (eqb-true b 95 e)) at_underscore
-    | false ↦ λ e i. let parts = and_parts (leb 97 b) (leb b 122) i in at_letter b (leb-true 97 b parts.0) (leb-true b 122 parts.1) ] refl h
+    elim (eqb b 95) as (λ v. eqb b 95 ≡ v → cond v (begins_identifier bs) (is_small_letter b) ≡ true → StartsWord b) [
+      | true ↦ λ e i. subst StartsWord (sym (eqb-true b 95 e)) at_underscore
+      | false ↦ λ e i. let parts = and_parts (leb 97 b) (leb b 122) i in at_letter b (leb-true 97 b parts.0) (leb-true b 122 parts.1)
+    ] refl h

@@ -41,8 +41,7 @@ fn next_token(alloc: Global, text: &[u8]) -> Result<Option<(Token, &[u8])>, Smal
 fn skip_blanks(text: &[u8]) -> &[u8]
     ensures { result.now ≡ drop (prefix_len is_blank text.now) text.now }
 {
-    let (_blanks, rest) = text.split_at(blank_len(text));
-    rest
+    &text[blank_len(text)..]
 }
 
 // The token at the front of a text that begins with no blank, and what follows it.
@@ -163,7 +162,9 @@ fn letter_len(text: &[u8]) -> usize
     ensures len { result ≡ prefix_len is_small_letter text.now }
     ensures within { result ≤ length text.now }
 {
-    text.iter().take_while(|byte| is_small_letter(**byte)).count()
+    text.iter()
+        .take_while(|byte| is_small_letter(**byte))
+        .count()
 }
 
 // How many bytes of a word stand at the front.

@@ -8,7 +8,7 @@ use Rattle.ap_parse.proofs.lexer.tokens.Goals as goal
 pub loop-found-preserved : goal.loop-found-preserved
 loop-found-preserved c =
     let pushed : c.push.new.self.items ≡ c.loop-found.found.items ++ (c.in-Some.token ∷ []) =
-        c.push.ensures.items ∙ cond-true (is_ok c.push.result) _ _ (sym c.map_err.ensures.variant ∙ ap is_ok c.in_ok-map_err.was) in
+    c.push.ensures.items ∙ cond-true (is_ok c.push.result) _ _ (sym c.map_err.ensures.variant ∙ ap is_ok c.in_ok-map_err.was) in
     let next = rw c.in-Some.is at c.in_ok-token.ensures in
     rw pushed (so_far_more _ _ _ _ _ c.loop-found.invariant next)
 
