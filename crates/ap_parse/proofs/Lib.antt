@@ -1,0 +1,4 @@
+mod LexingFronts
+mod LexingWords
+mod LexingTokens
+mod LexingTexts
