@@ -1,2 +1,4 @@
 pub mod Tokens
 pub mod Language
+pub mod ParseSigns
+pub mod ParseForms

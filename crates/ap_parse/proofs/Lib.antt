@@ -1,0 +1,2 @@
+pub mod ParsingSteps
+pub mod ParsingLists
