@@ -1,2 +1,3 @@
 pub mod ParsingSteps
 pub mod ParsingLists
+pub mod ParsingStatements

@@ -51,9 +51,9 @@ more {written = written} {separator = separator} {end = end} {here = here} {next
     record {
       read = s.read ∙ rw (r.found.0, e, flat_map-append) (simp append_assoc);
       others = λ items rest p t.
-        let q = item_taken s r items rest p t in
-        let w = goes_on written q.0 rest q.2 e differ in
-        (q.0, q.1 ∙ sym (append_assoc now (x ∷ []) q.0), w.0, w.1);
+          let q = item_taken s r items rest p t in
+          let w = goes_on written q.0 rest q.2 e differ in
+          (q.0, q.1 ∙ sym (append_assoc now (x ∷ []) q.0), w.0, w.1);
     }
 
 ends : {A : Type 0} (written : A → List Token) {separator end : Token} {mid : List Token} (items : List A) (rest : List Token) → mid ≡ tail written separator end items rest → ((after : List Token) → mid ≡ separator ∷ after → ⊥) → (items ≡ []) × (mid ≡ end ∷ rest)
@@ -78,9 +78,9 @@ ended {written = written} {separator = separator} {now = now} {x = x} s r none e
     record {
       found = (s.read ∙ rw (r.found.0, e, joined written separator now x) (simp append_assoc), has_last now x);
       only = λ items rest p t.
-        let q = item_taken s r items rest p t in
-        let w = ends written q.0 rest q.2 none in
-        q.1 ∙ ap (λ others. now ++ x ∷ others) w.0;
+          let q = item_taken s r items rest p t in
+          let w = ends written q.0 rest q.2 none in
+          q.1 ∙ ap (λ others. now ++ x ∷ others) w.0;
     }
 
 first_of : {A : Type 0} (written : A → List Token) (separator end : Token) {here : List Token} (items : List A) (rest : List Token) → here ≡ listed written separator end items ++ rest → IsTrue (has_items items) → (x : A) × (after : List Token) × (here ≡ written x ++ after) × IsTrue (any x)

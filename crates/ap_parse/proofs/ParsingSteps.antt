@@ -53,3 +53,16 @@ signs_differ a b differ e =
     let p : sign_of (sign_token a) ≡ sign_of (sign_token b) = ap sign_of e in
     let q : Some a ≡ Some b = sym (sign_again a) ∙ p ∙ sign_again b in
     differ cc
+
+-- what follows a valid tree is what reading left
+pub behind : {A : Type 0} {w : A → List Token} {v : A → Bool} {old mid : List Token} {x : A} → Reads w v old mid (Ok x) → (y : A) (rest : List Token) → old ≡ w y ++ rest → IsTrue (v y) → mid ≡ rest
+behind r y rest p t = sym (taken r y rest p t).1
+
+-- A part was read with which each tree goes on, and which makes a tree again.
+pub follow : {A : Type 0} {w w' : A → List Token} {v v' : A → Bool} {old mid new : List Token} {r : Result A SmallFault} → Reads w v mid new r → ((x : A) (rest : List Token) → mid ≡ w x ++ rest → IsTrue (v x) → (old ≡ w' x ++ rest) × IsTrue (v' x)) → ((y : A) (rest : List Token) → old ≡ w' y ++ rest → IsTrue (v' y) → (mid ≡ w y ++ rest) × IsTrue (v y)) → Reads w' v' old new r
+follow {new = new} {r = Ok x} s there back =
+    record {
+      found = there x new s.found.0 s.found.1;
+      only = λ y rest p t. let q = back y rest p t in s.only y rest q.0 q.1;
+    }
+follow {r = Err e} s there back = record { found = tt; only = λ y rest p t. let q = back y rest p t in s.only y rest q.0 q.1 }

@@ -2,3 +2,4 @@ pub mod Tokens
 pub mod Language
 pub mod ParseSigns
 pub mod ParseForms
+pub mod ParseItems

@@ -15,7 +15,7 @@ use Rattle.ap_parse.specs.declared.fault.SmallFault.{SmallFault}
 use Rattle.ap_parse.specs.declared.fault.SmallFault.TheVariants.{Syntax, Memory}
 use Rattle.ap_parse.specs.declared.parser.sign.Sign.{Sign}
 use Rattle.ap_parse.specs.declared.token.Token.{Token}
-use Rattle.ap_parse.specs.declared.token.Token.TheVariants.{Ident, Dot, Comma, OpenParen, CloseParen}
+use Rattle.ap_parse.specs.declared.token.Token.TheVariants.{Ident, Not, Dot, Comma, Semicolon, OpenParen, CloseParen, CloseBrace}
 
 -- this tree was answered, unless memory ran out
 abbrev pub Answers : {A : Type 0} → A → Result A SmallFault → Type 0
@@ -33,11 +33,6 @@ pub record Reads {A : Type 0} (written : A → List Token) (valid : A → Bool) 
 abbrev pub any : {A : Type 0} → A → Bool
 any tree = true
 
--- whether the sign comes next
-abbrev pub Sees : Sign → List Token → Bool → Type 0
-Sees sign tokens true = (rest : List Token) × (tokens ≡ sign_token sign ∷ rest)
-Sees sign tokens false = (rest : List Token) → tokens ≡ sign_token sign ∷ rest → ⊥
-
 -- the sign was taken, or did not come next
 abbrev pub Eats : Sign → List Token → List Token → Bool → Type 0
 Eats sign old new true = old ≡ sign_token sign ∷ new
@@ -54,6 +49,12 @@ abbrev pub TakesName : List Token → List Token → Option (Bor (List ℕ)) →
 TakesName old new (Some name) = old ≡ Ident name.now ∷ new
 TakesName old new None = (new ≡ old) × ((name : List ℕ) (rest : List Token) → old ≡ Ident name ∷ rest → ⊥)
 
+-- The tokens begin as an item of a list does.
+abbrev pub BeginsItem : List Token → Type 0
+BeginsItem (Ident name ∷ rest) = Unit {0}
+BeginsItem (Not ∷ rest) = Unit {0}
+BeginsItem tokens = ⊥
+
 -- a list that has items
 abbrev pub has_items : {A : Type 0} → List A → Bool
 has_items [] = false
@@ -62,6 +63,10 @@ has_items (item ∷ items) = true
 -- items that are parted by a sign, and then the sign that ends them
 abbrev pub list_tokens : {A : Type 0} → (A → List Token) → Sign → Sign → List A → List Token
 list_tokens written separator end items = join_by written (sign_token separator ∷ []) items ++ sign_token end ∷ []
+
+-- what stands behind an opening brace
+abbrev pub braces_tokens : {A : Type 0} → (A → List Token) → List A → List Token
+braces_tokens written items = join_by written (Semicolon ∷ []) items ++ CloseBrace ∷ []
 
 -- the item was added at the end, unless memory ran out
 abbrev pub Adds : {A : Type 0} → List A → List A → A → Result (Unit {0}) SmallFault → Type 0

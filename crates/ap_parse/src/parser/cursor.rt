@@ -1,6 +1,6 @@
 // The tokens that are not read yet.
 ghost use Rattle.std.specs.Prelude.{◌≡◌, ◌↔◌, [], IsTrue};
-ghost use Rattle.ap_parse.specs.ParseForms.{Eats, Reads, Sees, TakesName, any, name_tokens, sign_tokens};
+ghost use Rattle.ap_parse.specs.ParseForms.{Eats, Reads, TakesName, any, name_tokens, sign_tokens};
 
 use crate::SmallFault;
 use crate::parser::sign::{Sign, sign_of};
@@ -35,16 +35,6 @@ impl<'a> Cursor<'a> {
         ensures { IsTrue result ↔ (self.now ≡ []) }
     {
         self.rest.is_empty()
-    }
-
-    /// Whether the sign comes next.
-    pub fn sees(&self, sign: Sign) -> bool
-        ensures { Sees sign self.now result }
-    {
-        match self.rest.split_first() {
-            Some((token, _)) => sign_of(token) == Some(sign),
-            None => false,
-        }
     }
 
     /// Takes the sign, if it comes next.

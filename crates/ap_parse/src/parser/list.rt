@@ -1,7 +1,8 @@
 // Lists.
 ghost use Rattle.std.specs.Prelude.{◌≡◌, ◌≢◌, [], ◌∷◌, ◌++◌, List};
-ghost use Rattle.ap_parse.specs.Language.{atom_tokens, braced, choice_tokens, element_tokens, item_tokens};
-ghost use Rattle.ap_parse.specs.ParseForms.{Adds, Reads, any, has_items, list_tokens};
+ghost use Rattle.ap_parse.specs.Language.{atom_tokens, choice_tokens, element_tokens, item_tokens};
+ghost use Rattle.ap_parse.specs.ParseForms.{Adds, BeginsItem, Reads, any, braces_tokens, has_items, list_tokens};
+ghost use Rattle.ap_parse.specs.ParseItems.{BeginsItem-item_tokens, BeginsItem-formula_tokens};
 ghost use Rattle.ap_parse.specs.declared.parser.sign.Sign.TheVariants.{Semicolon, CloseBrace};
 ghost use Rattle.ap_parse.specs.declared.token.Token.{Token as TokenSpec};
 
@@ -20,6 +21,8 @@ pub trait Item: Drop + Sized {
     /// Reads one from the front of the tokens.
     fn read(alloc: Global, tokens: &mut Cursor<'_>) -> Result<Self, SmallFault>
         ensures { Reads written any tokens.old tokens.new result };
+
+    ghost begins: { (item : Self) → BeginsItem (written item) };
 }
 
 pub fn read_atom(alloc: Global, tokens: &mut Cursor<'_>) -> Result<Atom, SmallFault>
@@ -32,6 +35,8 @@ pub fn read_atom(alloc: Global, tokens: &mut Cursor<'_>) -> Result<Atom, SmallFa
 
 impl Item for BodyItem {
     ghost written = { item_tokens };
+
+    ghost begins = { BeginsItem-item_tokens };
 
     fn read(alloc: Global, tokens: &mut Cursor<'_>) -> Result<BodyItem, SmallFault> {
         if tokens.eat(Sign::Not) {
@@ -47,6 +52,8 @@ impl Item for BodyItem {
 impl Item for ChoiceElement {
     ghost written = { choice_tokens };
 
+    ghost begins = { λ element. tt };
+
     fn read(alloc: Global, tokens: &mut Cursor<'_>) -> Result<ChoiceElement, SmallFault> {
         let atom = read_atom(alloc, tokens)?;
         Ok(ChoiceElement { atom })
@@ -55,6 +62,8 @@ impl Item for ChoiceElement {
 
 impl Item for Element {
     ghost written = { element_tokens };
+
+    ghost begins = { λ element. BeginsItem-formula_tokens element.formula };
 
     fn read(alloc: Global, tokens: &mut Cursor<'_>) -> Result<Element, SmallFault> {
         let atom = read_atom(alloc, tokens)?;
@@ -92,11 +101,10 @@ pub fn read_list<T: Item>(
     Ok(items)
 }
 
-/// Reads what stands in braces, parted by semicolons.
-pub fn read_braced<T: Item>(alloc: Global, tokens: &mut Cursor<'_>) -> Result<Items<T>, SmallFault>
-    ensures { Reads (braced T.written) any tokens.old tokens.new result }
+/// Reads what stands behind an opening brace: items that are parted by semicolons, and the closing brace.
+pub fn read_braces<T: Item>(alloc: Global, tokens: &mut Cursor<'_>) -> Result<Items<T>, SmallFault>
+    ensures { Reads (braces_tokens T.written) any tokens.old tokens.new result }
 {
-    tokens.expect(Sign::OpenBrace)?;
     if tokens.eat(Sign::CloseBrace) {
         return Ok(Items::new(alloc));
     }

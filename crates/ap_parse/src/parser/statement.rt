@@ -6,7 +6,7 @@ ghost use Rattle.ap_parse.specs.ParseForms.{Reads, ReadsWhole, any, ending_token
 
 use crate::SmallFault;
 use crate::parser::cursor::Cursor;
-use crate::parser::list::{push, read_atom, read_braced, read_list};
+use crate::parser::list::{push, read_atom, read_braces, read_list};
 use crate::parser::sign::Sign;
 use ap_syntax::{BodyItem, HeadForm, Preference, Rule, Statement, Text};
 use sqlite_items::Items;
@@ -16,8 +16,8 @@ use std::alloc::Global;
 fn read_head(alloc: Global, tokens: &mut Cursor<'_>) -> Result<HeadForm, SmallFault>
     ensures { Reads head_tokens has_head tokens.old tokens.new result }
 {
-    if tokens.sees(Sign::OpenBrace) {
-        let elements = read_braced(alloc, tokens)?;
+    if tokens.eat(Sign::OpenBrace) {
+        let elements = read_braces(alloc, tokens)?;
         Ok(HeadForm::Choice(elements))
     } else {
         let atom = read_atom(alloc, tokens)?;
@@ -39,8 +39,8 @@ fn read_ending(alloc: Global, tokens: &mut Cursor<'_>) -> Result<Items<BodyItem>
 fn read_rule(alloc: Global, tokens: &mut Cursor<'_>) -> Result<Rule, SmallFault>
     ensures { Reads rule_tokens is_rule tokens.old tokens.new result }
 {
-    if tokens.sees(Sign::If) {
-        let body = read_ending(alloc, tokens)?;
+    if tokens.eat(Sign::If) {
+        let body = read_list(alloc, tokens, Sign::Comma, Sign::Dot)?;
         return Ok(Rule {
             head: HeadForm::Nothing,
             body,
@@ -80,7 +80,8 @@ fn read_preference(alloc: Global, tokens: &mut Cursor<'_>) -> Result<Preference,
     ensures { Reads preference_tokens is_preference tokens.old tokens.new result }
 {
     let (name, kind) = read_header(alloc, tokens)?;
-    let elements = read_braced(alloc, tokens)?;
+    tokens.expect(Sign::OpenBrace)?;
+    let elements = read_braces(alloc, tokens)?;
     tokens.expect(Sign::Dot)?;
     Ok(Preference {
         name,
