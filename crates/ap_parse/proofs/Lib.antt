@@ -1,3 +1,4 @@
 pub mod ParsingSteps
 pub mod ParsingLists
+pub mod ParsingTexts
 pub mod ParsingStatements
