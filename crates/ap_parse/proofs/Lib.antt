@@ -1,4 +1,5 @@
 pub mod ParsingSteps
+pub mod ParsingConditions
 pub mod ParsingLists
 pub mod ParsingTexts
 pub mod ParsingStatements

@@ -1,5 +1,5 @@
 -- What a function of the parser says: which tree it read from the front of the tokens.
-use Rattle.std.specs.Prelude.{◌≡◌, ℕ, ◌≤◌, Bool, true, false, List, [], ◌∷◌, ◌++◌, length, map, codes, IsTrue, IfOk, Result, Ok, Err, Option, Some, None}
+use Rattle.std.specs.Prelude.{◌≡◌, ℕ, ◌≤◌, Bool, true, false, List, [], ◌∷◌, ◌++◌, length, codes, IsTrue, IfOk, Result, Ok, Err, Option, Some, None}
 use Rattle.std.specs.Borrow.{Bor}
 use Rattle.std.specs.List.{filter_map, join_by, list_all}
 use Rattle.std.specs.Str.{bytes_eq}
@@ -113,10 +113,6 @@ optimize_tokens name = OpenParen ∷ Ident name ∷ CloseParen ∷ Dot ∷ []
 pub record ReadsWhole {A : Type 0} (written : A → List Token) (valid : A → Bool) (tokens : List Token) (result : Result A SmallFault) : Type 0 where
   pub found : IfOk result (λ tree. (tokens ≡ written tree) × IsTrue (valid tree))
   pub only : (tree : A) → tokens ≡ written tree → IsTrue (valid tree) → Answers tree result
-
--- the names of the preference statements
-abbrev pub preference_names : List Statement → List (List ℕ)
-preference_names statements = map (λ (preference : preferences.Preference). preference.name) (filter_map preference_of statements)
 
 -- there is at most one preference statement and at most one `#optimize`, which names the former
 pub record IsConsistent (statements : List Statement) : Type 0 where
