@@ -2,10 +2,11 @@
 ghost use Rattle.std.specs.Prelude.{◌≡◌, ◌<◌, ◌≤◌, IfOk, OnOk, IsErrOf};
 ghost use Rattle.small_optima.specs.Atoms.{atom_count};
 ghost use Rattle.small_optima.specs.Optima.{AreOptima};
+ghost use Rattle.small_optima.specs.declared.optima.TrialFault.TheVariants.{Memory};
 
 use ap_syntax::{Program, Text};
 use sqlite_items::Items;
-use std::alloc::Global;
+use std::alloc::{AllocError, AllocFailed, Global};
 use std::error::Error;
 use thiserror::Error;
 
@@ -27,6 +28,22 @@ pub enum TrialFault {
     /// Memory ran out.
     #[error("out of memory")]
     Memory,
+}
+
+impl From<AllocError> for TrialFault {
+    ghost from_gives = { λ _ fault. fault ≡ Memory };
+
+    fn from(_: AllocError) -> TrialFault {
+        TrialFault::Memory
+    }
+}
+
+impl<T: Drop> From<AllocFailed<T>> for TrialFault {
+    ghost from_gives = { λ _ fault. fault ≡ Memory };
+
+    fn from(_: AllocFailed<T>) -> TrialFault {
+        TrialFault::Memory
+    }
 }
 
 /// Lists the optimal answer sets of a program, in order. `TooMany` comes exactly where its rules have more than 12 atoms.
