@@ -1,5 +1,5 @@
 // The answer sets among the sets that are tried.
-ghost use Rattle.std.specs.Prelude.{◌≡◌, ℕ, List, IfOk};
+ghost use Rattle.std.specs.Prelude.{ℕ, List, IfOk};
 ghost use Rattle.ap_eval.specs.AnswerSets.{IsAnswerSet};
 ghost use Rattle.ap_eval.specs.AtomSets.{has};
 ghost use Rattle.small_optima.specs.Kept.{Kept};
