@@ -1,2 +1,5 @@
 pub mod Names
 pub mod Keeping
+pub mod Lists
+pub mod SublistsLemmas
+pub mod Within

@@ -1,4 +1,5 @@
 pub mod Adds
+pub mod Answers
 pub mod Atoms
 pub mod Preferred
 pub mod Optimal
@@ -6,3 +7,4 @@ pub mod Optima
 pub mod Kept
 pub mod Sublists
 pub mod Marks
+pub mod Unbeaten

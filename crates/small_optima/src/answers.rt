@@ -1,16 +1,21 @@
-// The answer sets among the sets that are tried.
-ghost use Rattle.std.specs.Prelude.{ℕ, List, IfOk};
+// The answer sets of a program.
+ghost use Rattle.std.specs.Prelude.{◌≡◌, ◌<◌, ◌≤◌, ℕ, List, IfOk, OnOk};
 ghost use Rattle.ap_eval.specs.AnswerSets.{IsAnswerSet};
 ghost use Rattle.ap_eval.specs.AtomSets.{has};
+ghost use Rattle.small_optima.specs.Answers.{AreAnswerSets};
+ghost use Rattle.small_optima.specs.Atoms.{atom_count};
 ghost use Rattle.small_optima.specs.Kept.{Kept};
 
+use crate::atoms::atoms_to_try;
+use crate::optima::TrialFault;
+use crate::subsets::subsets;
 use ap_eval::small_answer_set;
 use ap_syntax::{Program, Text};
 use sqlite_items::Items;
 use std::alloc::{AllocError, Global};
 
 /// Those of the sets that are answer sets, in order.
-pub fn answer_sets(
+fn answer_sets(
     alloc: Global,
     p: &Program,
     sets: Vec<Items<Text>>,
@@ -24,4 +29,15 @@ pub fn answer_sets(
         }
     }
     Ok(found)
+}
+
+/// All answer sets, in order. `TooMany` comes where the rules have more than 12 atoms.
+pub fn all_answer_sets(alloc: Global, p: &Program) -> Result<Vec<Items<Text>>, TrialFault>
+    ensures found { IfOk result (λ found. AreAnswerSets p.now found.items) }
+    ensures few { OnOk result (atom_count p.now ≤ 12) }
+    ensures many { result ≡ Err TrialFault.TooMany → 12 < atom_count p.now }
+{
+    let atoms = atoms_to_try(alloc, p)?;
+    let sets = subsets(alloc, atoms.as_slice())?;
+    Ok(answer_sets(alloc, p, sets)?)
 }

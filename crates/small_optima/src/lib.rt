@@ -4,6 +4,7 @@
 mod answers;
 mod atoms;
 mod optima;
+mod preferred;
 mod subsets;
 
 pub use atoms::MOST_ATOMS;

@@ -4,6 +4,8 @@ ghost use Rattle.small_optima.specs.Atoms.{atom_count};
 ghost use Rattle.small_optima.specs.Optima.{AreOptima};
 ghost use Rattle.small_optima.specs.declared.optima.TrialFault.TheVariants.{Memory};
 
+use crate::answers::all_answer_sets;
+use crate::preferred::unbeaten_sets;
 use ap_syntax::{Program, Text};
 use sqlite_items::Items;
 use std::alloc::{AllocError, AllocFailed, Global};
@@ -52,9 +54,9 @@ pub fn list_optima(alloc: Global, p: &Program) -> Result<Optima, TrialFault>
     ensures few { OnOk result (atom_count p.now ≤ 12) }
     ensures many { result ≡ Err TrialFault.TooMany → 12 < atom_count p.now }
 {
-    let _unused: Vec<u8> = Vec::new(alloc);
-    if p.statements.is_empty() {
-        return Err(TrialFault::Memory);
+    let found = all_answer_sets(alloc, p)?;
+    if found.is_empty() {
+        return Ok(Optima::Unsatisfiable);
     }
-    Err(TrialFault::Memory)
+    Ok(Optima::Listing(unbeaten_sets(alloc, p, found)?))
 }
