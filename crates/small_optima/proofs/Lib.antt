@@ -1,5 +1,8 @@
+pub mod Lists
 pub mod Names
 pub mod Keeping
-pub mod Lists
 pub mod SublistsLemmas
 pub mod Within
+pub mod AnswerLists
+pub mod Best
+pub mod Listing

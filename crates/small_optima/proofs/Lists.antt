@@ -1,11 +1,11 @@
 -- What holds of each member, and order, under `++` and `map`.
 use Rattle.std.proofs.Common.{◌≡◌, ℕ, zero, suc, ◌<◌, Bool, true, false, List, [], ◌∷◌, ◌++◌, length, map, get_or, refl, sym, ap, ◌∙◌, subst, arith, inl, inr}
 use Rattle.std.specs.Prelude.{Contains, IsTrue, ◌⊎◌}
-use Rattle.std.specs.List.{AllByRecursion, list_all}
+use Rattle.std.specs.List.{AllByRecursion, list_all, list_any}
 use Rattle.std.specs.List.Sorted.{IsStrictlySortedBy}
 use Rattle.std.specs.declared.cmp.Ordering.{Ordering}
 use Rattle.std.specs.declared.cmp.Ordering.TheVariants.{Less}
-use Rattle.std.proofs.lemmas.Bool.{and_from, and_parts}
+use Rattle.std.proofs.lemmas.Bool.{and_from, and_parts, or_parts}
 use Rattle.std.proofs.lemmas.List.{get_or-map, length-map}
 
 module _ {A : Type 0} where
@@ -24,6 +24,10 @@ module _ {A : Type 0} where
   pub each-map : {B : Type 0} (P : A → Type 0) (f : B → A) (ys : List B) → AllByRecursion (λ y. P (f y)) ys → AllByRecursion P (map f ys)
   each-map P f [] h = tt
   each-map P f (y ∷ ys) h = (h.0, each-map P f ys h.1)
+
+  pub each-none : (test : A → Bool) (xs : List A) → list_any test xs ≡ false → AllByRecursion (λ x. test x ≡ false) xs
+  each-none test [] h = tt
+  each-none test (x ∷ xs) h = let parts = or_parts (test x) (list_any test xs) h in (parts.0, each-none test xs parts.1)
 
   pub list_all-weaker : (p q : A → Bool) → ((x : A) → IsTrue (p x) → IsTrue (q x)) → (xs : List A) → IsTrue (list_all p xs) → IsTrue (list_all q xs)
   list_all-weaker p q f [] h = refl

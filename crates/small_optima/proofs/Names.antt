@@ -20,14 +20,11 @@ use Rattle.std.proofs.lemmas.Map.Text.{is_eq-slice_cmp}
 use Rattle.ap_eval.specs.AtomSets.{has}
 use Rattle.small_optima.specs.Adds.{Adds, ExceedsTwelve}
 use Rattle.small_optima.specs.Optimal.{atom_cmp}
+use Rattle.small_optima.proofs.Lists.{each-none}
 
 -- ---- unique keys, by any equality
 
 module _ {K : Type 0} {eq : K → K → Bool} (laws : IsEquivalence eq) where
-  apart_from_none : (test : K → Bool) (xs : List K) → list_any test xs ≡ false → AllByRecursion (λ y. test y ≡ false) xs
-  apart_from_none test [] h = tt
-  apart_from_none test (x ∷ xs) h = let parts = or_parts (test x) (list_any test xs) h in (parts.0, apart_from_none test xs parts.1)
-
   known_member : (x : K) (xs : List K) (q : K) → is_member eq xs x ≡ true → (eq q x || is_member eq xs q) ≡ is_member eq xs q
   known_member x xs q known = ⊎_elim
       (λ (same : eq q x ≡ true). ap (λ b. b || is_member eq xs q) same ∙ sym (list_any_congr laws q x xs same ∙ known))
@@ -53,7 +50,7 @@ module _ {K : Type 0} {eq : K → K → Bool} (laws : IsEquivalence eq) where
       subst (IsDistinct eq) (sym (cond-true (is_member eq xs x) (unique_keys eq xs) (x ∷ unique_keys eq xs) known)) (IsDistinct-unique_keys xs))
       (λ (new : is_member eq xs x ≡ false).
       subst (IsDistinct eq) (sym (cond-false (is_member eq xs x) (unique_keys eq xs) (x ∷ unique_keys eq xs) new))
-      (IsDistinct-cons eq x (unique_keys eq xs) (apart_from_none (eq x) (unique_keys eq xs) (is_member-unique_keys xs x ∙ new)) (IsDistinct-unique_keys xs)))
+      (IsDistinct-cons eq x (unique_keys eq xs) (each-none (eq x) (unique_keys eq xs) (is_member-unique_keys xs x ∙ new)) (IsDistinct-unique_keys xs)))
       (cases_Bool (is_member eq xs x))
 
   -- a list whose members are among those of another has no more of them
