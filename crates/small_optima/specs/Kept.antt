@@ -1,7 +1,8 @@
 -- The members of a list of which something holds.
-use Rattle.std.specs.Prelude.{◌≡◌, ◌⊎◌, List, [], ◌∷◌}
+use Rattle.std.specs.Prelude.{List, [], ◌∷◌}
 
 -- ys are the members of xs of which P holds, in order
-abbrev pub Kept : {A : Type 0} → (A → Type 0) → List A → List A → Type 0
-Kept P [] ys = ys ≡ []
-Kept P (x ∷ xs) ys = (P x × ((more : List _) × (ys ≡ x ∷ more) × Kept P xs more)) ⊎ ((P x → ⊥) × Kept P xs ys)
+pub data Kept {A : Type 0} (P : A → Type 0) : List A → List A → Type 0 where
+  none : Kept P [] []
+  keep : {x : A} {xs ys : List A} → P x → Kept P xs ys → Kept P (x ∷ xs) (x ∷ ys)
+  leave : {x : A} {xs ys : List A} → (P x → ⊥) → Kept P xs ys → Kept P (x ∷ xs) ys
