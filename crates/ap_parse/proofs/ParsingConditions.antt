@@ -102,11 +102,12 @@ pub decided : (xs : List Statement) (n : ℕ) (preference optimized : Option (Bo
 decided xs n preference optimized b p o all e =
     let names : filter_map preference_name xs ≡ option_to_list (option_copied preference) = rw take_all at p in
     let optimizes : filter_map optimized_by xs ≡ option_to_list (option_copied optimized) = rw take_all at o in
-    let agree = agree_is xs (option_copied preference) (option_copied optimized) names optimizes in
-    (λ t.
-      record {
-        one_preference = omega (arith, length-preferences xs, ap length names, length-option (option_copied preference));
-        one_optimize = omega (arith, ap length optimizes, length-option (option_copied optimized));
-        declared = agree ∙ sym e ∙ t;
-      },
-    λ k. e ∙ sym agree ∙ k.declared)
+    let agree = agree_is xs (option_copied preference) (option_copied optimized) names optimizes in (
+      λ t.
+          record {
+            one_preference = omega (arith, length-preferences xs, ap length names, length-option (option_copied preference));
+            one_optimize = omega (arith, ap length optimizes, length-option (option_copied optimized));
+            declared = agree ∙ sym e ∙ t;
+          },
+      λ k. e ∙ sym agree ∙ k.declared,
+    )

@@ -13,7 +13,7 @@ use Rattle.ap_syntax.specs.declared.tree.Rule as rules
 use Rattle.ap_syntax.specs.declared.tree.Statement.{Statement}
 use Rattle.ap_syntax.specs.declared.tree.Statement.TheVariants as statement
 use Rattle.ap_parse.specs.Language.{body_tokens, has_body, has_head, head_tokens, item_tokens, statement_tokens}
-use Rattle.ap_parse.specs.ParseForms.{Answers, Reads, any, ending_tokens, has_items}
+use Rattle.ap_parse.specs.ParseForms.{Answers, Reads, always, ending_tokens, has_items}
 use Rattle.ap_parse.specs.declared.token.Token.{Token}
 use Rattle.ap_parse.specs.declared.token.Token.TheVariants.{Dot, If, Comma}
 use Rattle.ap_parse.proofs.ParsingLists.{listed}

@@ -40,10 +40,10 @@ more {written = written} {valid = valid} {mid = mid} {now = now} {x = x} s some 
       read = s.read ∙ rw (r.found.0, flat_map-append) (simp append_assoc);
       valid_so_far = list_all-push valid now x s.valid_so_far r.found.1;
       others = λ trees p t.
-        let q = s.others trees p t in
-        let n = next_tree written valid q.0 some q.2 q.3 in
-        let same = taken r n.0 (flat_map written n.1) n.3 n.4 in
-        (n.1, q.1 ∙ (ap (λ ts. now ++ ts) n.2 ∙ (ap (λ z. now ++ z ∷ n.1) same.0 ∙ sym (append_assoc now (x ∷ []) n.1))), sym same.1, n.5);
+          let q = s.others trees p t in
+          let n = next_tree written valid q.0 some q.2 q.3 in
+          let same = taken r n.0 (flat_map written n.1) n.3 n.4 in
+          (n.1, q.1 ∙ (ap (λ ts. now ++ ts) n.2 ∙ (ap (λ z. now ++ z ∷ n.1) same.0 ∙ sym (append_assoc now (x ∷ []) n.1))), sym same.1, n.5);
     }
 
 none_left : {A : Type 0} (written : A → List Token) (trees : List A) → ((x : A) → written x ≢ []) → [] ≡ flat_map written trees → trees ≡ []
@@ -60,8 +60,8 @@ ended {written = written} {now = now} s some e =
     record {
       found = (s.read ∙ (ap (λ ts. flat_map written now ++ ts) e ∙ append-nil _), s.valid_so_far);
       only = λ trees p t.
-        let q = s.others trees p t in
-        q.1 ∙ (ap (λ ts. now ++ ts) (none_left written q.0 some (sym e ∙ q.2)) ∙ append-nil now);
+          let q = s.others trees p t in
+          q.1 ∙ (ap (λ ts. now ++ ts) (none_left written q.0 some (sym e ∙ q.2)) ∙ append-nil now);
     }
 
 failed : {A : Type 0} {written : A → List Token} {valid : A → Bool} {start here mid : List Token} {now : List A} (e : SmallFault) → Passed written valid start here now → here ≢ [] → Reads written valid here mid (Err e) → ReadsWhole (flat_map written) (list_all valid) start (Err e)
@@ -69,9 +69,9 @@ failed {written = written} {valid = valid} Syntax s some r =
     record {
       found = tt;
       only = λ trees p t.
-        let q = s.others trees p t in
-        let n = next_tree written valid q.0 some q.2 q.3 in
-        r.only n.0 (flat_map written n.1) n.3 n.4;
+          let q = s.others trees p t in
+          let n = next_tree written valid q.0 some q.2 q.3 in
+          r.only n.0 (flat_map written n.1) n.3 n.4;
     }
 failed Memory s some r = record { found = tt; only = λ trees p t. tt }
 

@@ -14,6 +14,7 @@ use Rattle.ap_parse.specs.ParseSigns.{sign_token}
 use Rattle.ap_parse.specs.declared.fault.SmallFault.{SmallFault}
 use Rattle.ap_parse.specs.declared.fault.SmallFault.TheVariants.{Syntax, Memory}
 use Rattle.ap_parse.specs.declared.parser.sign.Sign.{Sign}
+use Rattle.ap_parse.specs.declared.parser.statement.Header.{Header}
 use Rattle.ap_parse.specs.declared.token.Token.{Token}
 use Rattle.ap_parse.specs.declared.token.Token.TheVariants.{Ident, Not, Dot, Comma, Semicolon, OpenParen, CloseParen, CloseBrace}
 
@@ -30,8 +31,8 @@ pub record Reads {A : Type 0} (written : A → List Token) (valid : A → Bool) 
   pub only : (tree : A) (rest : List Token) → old ≡ written tree ++ rest → IsTrue (valid tree) → Answers tree result
 
 -- every tree is valid
-abbrev pub any : {A : Type 0} → A → Bool
-any tree = true
+abbrev pub always : {A : Type 0} → A → Bool
+always tree = true
 
 -- the sign was taken, or did not come next
 abbrev pub Eats : Sign → List Token → List Token → Bool → Type 0
@@ -89,15 +90,15 @@ abbrev pub is_subset : List ℕ → Bool
 is_subset kind = bytes_eq kind (codes "subset")
 
 -- the name and the type of a preference statement
-abbrev pub header_tokens : List ℕ × List ℕ → List Token
-header_tokens header = OpenParen ∷ Ident header.0 ∷ Comma ∷ Ident header.1 ∷ CloseParen ∷ []
+abbrev pub header_tokens : Header → List Token
+header_tokens header = OpenParen ∷ Ident header.name ∷ Comma ∷ Ident header.kind ∷ CloseParen ∷ []
 
-abbrev pub is_header : List ℕ × List ℕ → Bool
-is_header header = is_subset header.1
+abbrev pub is_header : Header → Bool
+is_header header = is_subset header.kind
 
 -- what stands behind `#preference`
 abbrev pub preference_tokens : preferences.Preference → List Token
-preference_tokens preference = header_tokens (preference.name, preference.kind) ++ braced element_tokens preference.elements ++ Dot ∷ []
+preference_tokens preference = header_tokens (record { name = preference.name; kind = preference.kind }) ++ braced element_tokens preference.elements ++ Dot ∷ []
 
 abbrev pub is_preference : preferences.Preference → Bool
 is_preference preference = is_statement (statement.Preference preference)

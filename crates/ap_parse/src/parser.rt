@@ -31,3 +31,49 @@ pub fn parse(alloc: Global, tokens: &[Token]) -> Result<Program, SmallFault>
         Err(SmallFault::Syntax)
     }
 }
+
+#[cfg(test)]
+mod tests {
+    use super::*;
+    use ap_syntax::Text;
+    use std::test::Fail;
+
+    #[test]
+    fn reads_a_program(rt: HostRuntime) -> Result<(), Fail> {
+        let alloc = rt.alloc();
+        // {a; b}. :- a, not b. #preference(p, subset) {}. #optimize(p).
+        let tokens = [
+            Token::OpenBrace,
+            Token::Ident(Text::new(alloc, "a")?),
+            Token::Semicolon,
+            Token::Ident(Text::new(alloc, "b")?),
+            Token::CloseBrace,
+            Token::Dot,
+            Token::If,
+            Token::Ident(Text::new(alloc, "a")?),
+            Token::Comma,
+            Token::Not,
+            Token::Ident(Text::new(alloc, "b")?),
+            Token::Dot,
+            Token::Preference,
+            Token::OpenParen,
+            Token::Ident(Text::new(alloc, "p")?),
+            Token::Comma,
+            Token::Ident(Text::new(alloc, "subset")?),
+            Token::CloseParen,
+            Token::OpenBrace,
+            Token::CloseBrace,
+            Token::Dot,
+            Token::Optimize,
+            Token::OpenParen,
+            Token::Ident(Text::new(alloc, "p")?),
+            Token::CloseParen,
+            Token::Dot,
+        ];
+        let program = parse(alloc, &tokens)?;
+        assert_eq!(rt; program.statements.len(), 4);
+        let cut = parse(alloc, &tokens[..25]);
+        assert!(rt; matches!(cut, Err(SmallFault::Syntax)));
+        Ok(())
+    }
+}

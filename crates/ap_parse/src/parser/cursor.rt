@@ -1,6 +1,6 @@
 // The tokens that are not read yet.
 ghost use Rattle.std.specs.Prelude.{◌≡◌, ◌↔◌, [], IsTrue};
-ghost use Rattle.ap_parse.specs.ParseForms.{Eats, Reads, TakesName, any, name_tokens, sign_tokens};
+ghost use Rattle.ap_parse.specs.ParseForms.{Eats, Reads, TakesName, always, name_tokens, sign_tokens};
 
 use crate::SmallFault;
 use crate::parser::sign::{Sign, sign_of};
@@ -52,7 +52,7 @@ impl<'a> Cursor<'a> {
 
     /// Reads the sign.
     pub fn expect(&mut self, sign: Sign) -> Result<(), SmallFault>
-        ensures { Reads (sign_tokens sign) any self.old self.new result }
+        ensures { Reads (sign_tokens sign) always self.old self.new result }
     {
         if self.eat(sign) {
             Ok(())
@@ -75,7 +75,7 @@ impl<'a> Cursor<'a> {
 
     /// Reads an identifier.
     pub fn name(&mut self, alloc: Global) -> Result<Text, SmallFault>
-        ensures { Reads name_tokens any self.old self.new result }
+        ensures { Reads name_tokens always self.old self.new result }
     {
         match self.take_name() {
             Some(name) => name.copy(alloc).map_err(|_| SmallFault::Memory),

@@ -1,7 +1,7 @@
 // Lists.
 ghost use Rattle.std.specs.Prelude.{◌≡◌, ◌≢◌, [], ◌∷◌, ◌++◌, List};
 ghost use Rattle.ap_parse.specs.Language.{atom_tokens, choice_tokens, element_tokens, item_tokens};
-ghost use Rattle.ap_parse.specs.ParseForms.{Adds, BeginsItem, Reads, any, braces_tokens, has_items, list_tokens};
+ghost use Rattle.ap_parse.specs.ParseForms.{Adds, BeginsItem, Reads, always, braces_tokens, has_items, list_tokens};
 ghost use Rattle.ap_parse.specs.ParseItems.{BeginsItem-item_tokens, BeginsItem-formula_tokens};
 ghost use Rattle.ap_parse.specs.declared.parser.sign.Sign.TheVariants.{Semicolon, CloseBrace};
 ghost use Rattle.ap_parse.specs.declared.token.Token.{Token as TokenSpec};
@@ -20,13 +20,13 @@ pub trait Item: Drop + Sized {
 
     /// Reads one from the front of the tokens.
     fn read(alloc: Global, tokens: &mut Cursor<'_>) -> Result<Self, SmallFault>
-        ensures { Reads written any tokens.old tokens.new result };
+        ensures { Reads written always tokens.old tokens.new result };
 
     ghost begins: { (item : Self) → BeginsItem (written item) };
 }
 
 pub fn read_atom(alloc: Global, tokens: &mut Cursor<'_>) -> Result<Atom, SmallFault>
-    ensures { Reads atom_tokens any tokens.old tokens.new result }
+    ensures { Reads atom_tokens always tokens.old tokens.new result }
 {
     Ok(Atom {
         name: tokens.name(alloc)?,
@@ -103,7 +103,7 @@ pub fn read_list<T: Item>(
 
 /// Reads what stands behind an opening brace: items that are parted by semicolons, and the closing brace.
 pub fn read_braces<T: Item>(alloc: Global, tokens: &mut Cursor<'_>) -> Result<Items<T>, SmallFault>
-    ensures { Reads (braces_tokens T.written) any tokens.old tokens.new result }
+    ensures { Reads (braces_tokens T.written) always tokens.old tokens.new result }
 {
     if tokens.eat(Sign::CloseBrace) {
         return Ok(Items::new(alloc));

@@ -2,7 +2,7 @@
 ghost use Rattle.std.specs.Prelude.{◌≡◌};
 ghost use Rattle.std.specs.List.{flat_map, list_all};
 ghost use Rattle.ap_parse.specs.Language.{has_head, head_tokens, is_statement, statement_tokens};
-ghost use Rattle.ap_parse.specs.ParseForms.{Reads, ReadsWhole, any, ending_tokens, header_tokens, is_header, is_preference, is_rule, is_subset, name_tokens, optimize_tokens, preference_tokens, rule_tokens};
+ghost use Rattle.ap_parse.specs.ParseForms.{Reads, ReadsWhole, always, ending_tokens, header_tokens, is_header, is_preference, is_rule, is_subset, name_tokens, optimize_tokens, preference_tokens, rule_tokens};
 
 use crate::SmallFault;
 use crate::parser::cursor::Cursor;
@@ -11,6 +11,13 @@ use crate::parser::sign::Sign;
 use ap_syntax::{BodyItem, HeadForm, Preference, Rule, Statement, Text};
 use sqlite_items::Items;
 use std::alloc::Global;
+
+/// The name and the type of a preference statement.
+#[derive(Drop)]
+struct Header {
+    name: Text,
+    kind: Text,
+}
 
 /// Reads a head other than none.
 fn read_head(alloc: Global, tokens: &mut Cursor<'_>) -> Result<HeadForm, SmallFault>
@@ -27,7 +34,7 @@ fn read_head(alloc: Global, tokens: &mut Cursor<'_>) -> Result<HeadForm, SmallFa
 
 /// Reads the body of a rule, if there is one, and the dot.
 fn read_ending(alloc: Global, tokens: &mut Cursor<'_>) -> Result<Items<BodyItem>, SmallFault>
-    ensures { Reads ending_tokens any tokens.old tokens.new result }
+    ensures { Reads ending_tokens always tokens.old tokens.new result }
 {
     if tokens.eat(Sign::Dot) {
         return Ok(Items::new(alloc));
@@ -64,7 +71,7 @@ fn read_kind(alloc: Global, tokens: &mut Cursor<'_>) -> Result<Text, SmallFault>
 }
 
 /// Reads the name and the type of a preference statement.
-fn read_header(alloc: Global, tokens: &mut Cursor<'_>) -> Result<(Text, Text), SmallFault>
+fn read_header(alloc: Global, tokens: &mut Cursor<'_>) -> Result<Header, SmallFault>
     ensures { Reads header_tokens is_header tokens.old tokens.new result }
 {
     tokens.expect(Sign::OpenParen)?;
@@ -72,14 +79,14 @@ fn read_header(alloc: Global, tokens: &mut Cursor<'_>) -> Result<(Text, Text), S
     tokens.expect(Sign::Comma)?;
     let kind = read_kind(alloc, tokens)?;
     tokens.expect(Sign::CloseParen)?;
-    Ok((name, kind))
+    Ok(Header { name, kind })
 }
 
 /// Reads what stands behind `#preference`.
 fn read_preference(alloc: Global, tokens: &mut Cursor<'_>) -> Result<Preference, SmallFault>
     ensures { Reads preference_tokens is_preference tokens.old tokens.new result }
 {
-    let (name, kind) = read_header(alloc, tokens)?;
+    let Header { name, kind } = read_header(alloc, tokens)?;
     tokens.expect(Sign::OpenBrace)?;
     let elements = read_braces(alloc, tokens)?;
     tokens.expect(Sign::Dot)?;
@@ -92,7 +99,7 @@ fn read_preference(alloc: Global, tokens: &mut Cursor<'_>) -> Result<Preference,
 
 /// Reads what stands behind `#optimize`.
 fn read_optimize(alloc: Global, tokens: &mut Cursor<'_>) -> Result<Text, SmallFault>
-    ensures { Reads optimize_tokens any tokens.old tokens.new result }
+    ensures { Reads optimize_tokens always tokens.old tokens.new result }
 {
     tokens.expect(Sign::OpenParen)?;
     let name = tokens.name(alloc)?;

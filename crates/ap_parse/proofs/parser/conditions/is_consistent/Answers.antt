@@ -19,21 +19,21 @@ loop-statement-preserved c =
     let here = c.loop-statement-test.true in
     let at = c.statement-item.is in
     elim c.match-statement.branch [
-      in-Rule w ↦
-        record {
-          preferred = rw w.preference-is (passed preference_name _ _ _ _ i.preferred here at (ap preference_name w.in-Rule.is));
-          optimized = rw w.optimized-is (passed optimized_by _ _ _ _ i.optimized here at (ap optimized_by w.in-Rule.is));
-        }
-    | in-Preference+else-is_some w ↦
-        record {
-          preferred = rw w.preference-is (first preference_name _ _ _ w.in-Preference.found.name _ i.preferred w.if-is_some.ensures here at (ap preference_name w.in-Preference.is));
-          optimized = rw w.optimized-is (passed optimized_by _ _ _ _ i.optimized here at (ap optimized_by w.in-Preference.is));
-        }
-    | in-Optimize+else-is_some-2 w ↦
-        record {
-          preferred = rw w.preference-is (passed preference_name _ _ _ _ i.preferred here at (ap preference_name w.in-Optimize.is));
-          optimized = rw w.optimized-is (first optimized_by _ _ _ w.in-Optimize.name _ i.optimized w.if-is_some-2.ensures here at (ap optimized_by w.in-Optimize.is));
-        }
+      | in-Rule w ↦
+          record {
+            preferred = rw w.preference-is (passed preference_name _ _ _ _ i.preferred here at (ap preference_name w.in-Rule.is));
+            optimized = rw w.optimized-is (passed optimized_by _ _ _ _ i.optimized here at (ap optimized_by w.in-Rule.is));
+          }
+      | in-Preference+else-is_some w ↦
+          record {
+            preferred = rw w.preference-is (first preference_name _ _ _ w.in-Preference.found.name _ i.preferred w.if-is_some.ensures here at (ap preference_name w.in-Preference.is));
+            optimized = rw w.optimized-is (passed optimized_by _ _ _ _ i.optimized here at (ap optimized_by w.in-Preference.is));
+          }
+      | in-Optimize+else-is_some-2 w ↦
+          record {
+            preferred = rw w.preference-is (passed preference_name _ _ _ _ i.preferred here at (ap preference_name w.in-Optimize.is));
+            optimized = rw w.optimized-is (first optimized_by _ _ _ w.in-Optimize.name _ i.optimized w.if-is_some-2.ensures here at (ap optimized_by w.in-Optimize.is));
+          }
     ]
 
 pub returns-in_default-None : goal.returns-in_default-None

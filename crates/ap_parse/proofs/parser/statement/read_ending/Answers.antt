@@ -14,7 +14,7 @@ returns-in_err-expect c =
 pub returns : goal.returns
 returns c =
     follow c.read_list.ensures
-      (λ body rest p t. (sym c.if-eat.ensures.0 ∙ (c.in_ok-expect.ensures.found.0 ∙ ap (λ ts. If ∷ ts) p) ∙ sym (ending_again body rest t), refl))
-      (λ body rest p t.
-        let next = sign_next c.if-eat.ensures.1 body rest p in
-        (behind c.in_ok-expect.ensures tt _ (c.if-eat.ensures.0 ∙ next.0) refl, next.1))
+    (λ body rest p t. (sym c.if-eat.ensures.0 ∙ (c.in_ok-expect.ensures.found.0 ∙ ap (λ ts. If ∷ ts) p) ∙ sym (ending_again body rest t), refl))
+    (λ body rest p t.
+    let next = sign_next c.if-eat.ensures.1 body rest p in
+    (behind c.in_ok-expect.ensures tt _ (c.if-eat.ensures.0 ∙ next.0) refl, next.1))
