@@ -195,3 +195,70 @@ fn is_word_byte(byte: u8) -> bool
 {
     byte.is_ascii_alphanumeric() || byte == b'_' || byte == b'\''
 }
+
+#[cfg(test)]
+mod tests {
+    use super::*;
+    use std::test::Fail;
+
+    // Each token of a text in brackets, or the fault.
+    fn shown(alloc: Global, text: &str) -> Result<String, Fail> {
+        let mut line = String::new(alloc);
+        match tokens(alloc, text.as_bytes()) {
+            Ok(found) => {
+                for token in &found {
+                    line.push_str("[")?;
+                    line.push_str(spelling(token))?;
+                    line.push_str("]")?;
+                }
+            }
+            Err(SmallFault::Syntax) => line.push_str("syntax")?,
+            Err(SmallFault::Memory) => line.push_str("memory")?,
+        }
+        Ok(line)
+    }
+
+    fn spelling(token: &Token) -> &str {
+        match token {
+            Token::Ident(name) => name.as_str(),
+            Token::Not => "!",
+            Token::If => ":-",
+            Token::Dot => ".",
+            Token::Comma => ",",
+            Token::Semicolon => ";",
+            Token::OpenParen => "(",
+            Token::CloseParen => ")",
+            Token::OpenBrace => "{",
+            Token::CloseBrace => "}",
+            Token::Preference => "#P",
+            Token::Optimize => "#O",
+        }
+    }
+
+    #[test]
+    fn splits_texts(rt: HostRuntime) -> Result<(), Fail> {
+        for (text, want) in [
+            ("", ""),
+            (" \t\r\n", ""),
+            ("a:-not b , __x'1Z.\r\n", "[a][:-][!][b][,][__x'1Z][.]"),
+            ("nota not' not", "[nota][not'][!]"),
+            (
+                "#preference(p,subset){a;b}.#optimize(p).",
+                "[#P][(][p][,][subset][)][{][a][;][b][}][.][#O][(][p][)][.]",
+            ),
+            ("#optimize_a", "[#O][_a]"),
+            ("a : b", "syntax"),
+            ("_", "syntax"),
+            ("a _X", "syntax"),
+            ("A", "syntax"),
+            ("1", "syntax"),
+            ("#optimizeit", "syntax"),
+            ("# optimize", "syntax"),
+            ("#show", "syntax"),
+            ("a.é", "syntax"),
+        ] {
+            assert_eq!(rt; shown(rt.alloc(), text)?.as_str(), want, "at {text:?}");
+        }
+        Ok(())
+    }
+}
