@@ -1,7 +1,8 @@
 -- When a reading ends without the bytes.
-use Rattle.std.specs.Prelude.{◌≡◌, ℕ, ◌<◌, Bool, List, length, IsTrue}
+use Rattle.std.specs.Prelude.{◌≡◌, ℕ, ◌<◌, ◌≤◌, ◌-◌, Bool, List, length, take, IsTrue, Option, IsSomeAnd}
 use Rattle.ap_base.specs.Counts.{Rose, counted}
-use Rattle.ap_base.specs.Readings.{Reading, TooLong}
+use Rattle.ap_base.specs.Inputs.{Input}
+use Rattle.ap_base.specs.Readings.{Reading, TooLong, is_whole, reading_of}
 use Rattle.ap_base.specs.declared.reading.ReadFault.{ReadFault}
 use Rattle.ap_base.specs.declared.reading.ReadFault.TheVariants.{Source, Bytes, Memory}
 
@@ -17,8 +18,14 @@ ReadFaultCause tells reading before now opens_before opens_now (Source opened) =
 ReadFaultCause tells reading before now opens_before opens_now Bytes = (now ≡ before) × (IsTrue tells → reading ≡ TooLong)
 ReadFaultCause tells reading before now opens_before opens_now Memory = now ≡ before
 
--- the same for the open input alone, of which these bytes are left
-abbrev pub InputFaultCause : (tells : Bool) (left : List ℕ) (room opened faults_before faults_now : ℕ) → ReadFault → Type 0
-InputFaultCause tells left room opened before now (Source number) = (number ≡ opened) × Rose before now
-InputFaultCause tells left room opened before now Bytes = (now ≡ before) × (IsTrue tells → room < length left)
-InputFaultCause tells left room opened before now Memory = now ≡ before
+-- Where the source failed it was at one of these inputs, and those before it had been read whole.
+abbrev pub ReadBefore : (tells : Bool) → List Input → List (List ℕ) → ℕ → ReadFault → Type 0
+ReadBefore tells held names room (Source opened) = (0 < opened) × (opened ≤ length names) × (IsTrue tells → IsTrue (is_whole (reading_of held (take (opened - 1) names) room)))
+ReadBefore tells held names room Bytes = Unit {0}
+ReadBefore tells held names room Memory = Unit {0}
+
+-- the same for one input alone, of these bytes or none, that is opened as the one of this number
+abbrev pub InputFaultCause : (tells : Bool) (found : Option (List ℕ)) (room number faults_before faults_now : ℕ) → ReadFault → Type 0
+InputFaultCause tells found room number before now (Source opened) = (opened ≡ number) × Rose before now
+InputFaultCause tells found room number before now Bytes = (now ≡ before) × (IsTrue tells → IsSomeAnd found (λ bytes. room < length bytes))
+InputFaultCause tells found room number before now Memory = now ≡ before
