@@ -17,3 +17,6 @@ pub use outside::{Failed, Sink, Source};
 pub use reading::{MAX_BYTES, ReadFault, read_all};
 pub use status::Status;
 pub use writing::write_all;
+
+#[cfg(test)]
+mod tests;
