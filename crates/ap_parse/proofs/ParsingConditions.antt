@@ -11,7 +11,7 @@ use Rattle.std.specs.Str.{bytes_eq}
 use Rattle.ap_syntax.specs.declared.tree.Preference as preferences
 use Rattle.ap_syntax.specs.declared.tree.Statement.{Statement}
 use Rattle.ap_syntax.specs.declared.tree.Statement.TheVariants as statement
-use Rattle.ap_parse.specs.Language.{is_declared, optimized_by, preference_of}
+use Rattle.ap_parse.specs.Language.{is_declared, optimised_by, preference_of}
 use Rattle.ap_parse.specs.ParseForms.{IsConsistent}
 
 one_given : {X Y : Type 0} (h : X → Option Y) (x : X) (o : Option Y) → h x ≡ o → filter_map h (x ∷ []) ≡ option_to_list o
@@ -74,7 +74,7 @@ list_any-map (p ∷ ps) name = ap (λ b. bytes_eq p.name name || b) (list_any-ma
 declared_is : (xs : List Statement) (name : List ℕ) → is_declared (record { statements = xs }) name ≡ among (filter_map preference_name xs) name
 declared_is xs name = sym (ap (λ names. among names name) (names_are xs) ∙ list_any-map (filter_map preference_of xs) name)
 
--- whether the name that is optimized is that of the preference statement
+-- whether the name that is optimised is that of the preference statement
 abbrev pub names_agree : Option (List ℕ) → Option (List ℕ) → Bool
 names_agree preference None = true
 names_agree None (Some name) = false
@@ -88,7 +88,7 @@ and_true : (b : Bool) → (b && true) ≡ b
 and_true true = refl
 and_true false = refl
 
-agree_is : (xs : List Statement) (preference optimized : Option (List ℕ)) → filter_map preference_name xs ≡ option_to_list preference → filter_map optimized_by xs ≡ option_to_list optimized → list_all (is_declared (record { statements = xs })) (filter_map optimized_by xs) ≡ names_agree preference optimized
+agree_is : (xs : List Statement) (preference optimised : Option (List ℕ)) → filter_map preference_name xs ≡ option_to_list preference → filter_map optimised_by xs ≡ option_to_list optimised → list_all (is_declared (record { statements = xs })) (filter_map optimised_by xs) ≡ names_agree preference optimised
 agree_is xs preference None p o = rw o refl
 agree_is xs None (Some name) p o = rw o (and_true _ ∙ declared_is xs name ∙ ap (λ names. among names name) p)
 agree_is xs (Some n) (Some name) p o = rw o (and_true _ ∙ declared_is xs name ∙ ap (λ names. among names name) p ∙ or_false (bytes_eq n name))
@@ -98,15 +98,15 @@ length-option None = omega arith
 length-option (Some x) = omega arith
 
 -- the whole list was passed
-pub decided : (xs : List Statement) (n : ℕ) (preference optimized : Option (Bor (List ℕ))) (b : Bool) → Found preference_name xs n preference → Found optimized_by xs n optimized → length xs ≤ n → b ≡ names_agree (option_copied preference) (option_copied optimized) → IsTrue b ↔ IsConsistent xs
-decided xs n preference optimized b p o all e =
+pub decided : (xs : List Statement) (n : ℕ) (preference optimised : Option (Bor (List ℕ))) (b : Bool) → Found preference_name xs n preference → Found optimised_by xs n optimised → length xs ≤ n → b ≡ names_agree (option_copied preference) (option_copied optimised) → IsTrue b ↔ IsConsistent xs
+decided xs n preference optimised b p o all e =
     let names : filter_map preference_name xs ≡ option_to_list (option_copied preference) = rw take_all at p in
-    let optimizes : filter_map optimized_by xs ≡ option_to_list (option_copied optimized) = rw take_all at o in
-    let agree = agree_is xs (option_copied preference) (option_copied optimized) names optimizes in (
+    let optimizes : filter_map optimised_by xs ≡ option_to_list (option_copied optimised) = rw take_all at o in
+    let agree = agree_is xs (option_copied preference) (option_copied optimised) names optimizes in (
       λ t.
           record {
             one_preference = omega (arith, length-preferences xs, ap length names, length-option (option_copied preference));
-            one_optimize = omega (arith, ap length optimizes, length-option (option_copied optimized));
+            one_optimize = omega (arith, ap length optimizes, length-option (option_copied optimised));
             declared = agree ∙ sym e ∙ t;
           },
       λ k. e ∙ sym agree ∙ k.declared,

@@ -9,7 +9,7 @@ use Rattle.ap_syntax.specs.declared.tree.Preference as preferences
 use Rattle.ap_syntax.specs.declared.tree.Rule as rules
 use Rattle.ap_syntax.specs.declared.tree.Statement.{Statement}
 use Rattle.ap_syntax.specs.declared.tree.Statement.TheVariants as statement
-use Rattle.ap_parse.specs.Language.{body_tokens, braced, element_tokens, is_declared, is_statement, optimized_by, preference_of, statement_tokens}
+use Rattle.ap_parse.specs.Language.{body_tokens, braced, element_tokens, is_declared, is_statement, optimised_by, preference_of, statement_tokens}
 use Rattle.ap_parse.specs.ParseSigns.{sign_token}
 use Rattle.ap_parse.specs.declared.fault.SmallFault.{SmallFault}
 use Rattle.ap_parse.specs.declared.fault.SmallFault.TheVariants.{Syntax, Memory}
@@ -118,5 +118,5 @@ pub record ReadsWhole {A : Type 0} (written : A → List Token) (valid : A → B
 -- there is at most one preference statement and at most one `#optimize`, which names the former
 pub record IsConsistent (statements : List Statement) : Type 0 where
   pub one_preference : length (filter_map preference_of statements) ≤ 1
-  pub one_optimize : length (filter_map optimized_by statements) ≤ 1
-  pub declared : IsTrue (list_all (is_declared (record { statements = statements })) (filter_map optimized_by statements))
+  pub one_optimize : length (filter_map optimised_by statements) ≤ 1
+  pub declared : IsTrue (list_all (is_declared (record { statements = statements })) (filter_map optimised_by statements))

@@ -29,8 +29,8 @@ cut_line line old mid new end xs i x less is before begins front =
     let split : drop i xs ≡ x ∷ drop (i + 1) xs = drop_at xs i x less is in
     let whole : old ++ numbered line 1 xs ≡ mid ++ (line (i + 1) x ++ rest) = rw split at before in
     let text : old ++ (numbered line 1 xs ++ end) ≡ (mid ++ line (i + 1) x) ++ (rest ++ end) =
-        sym (append_assoc old (numbered line 1 xs) end) ∙ ap (λ t. t ++ end) whole
-        ∙ ap (λ t. t ++ end) (sym (append_assoc mid (line (i + 1) x) rest)) ∙ append_assoc (mid ++ line (i + 1) x) rest end in
+    sym (append_assoc old (numbered line 1 xs) end) ∙ ap (λ t. t ++ end) whole
+    ∙ ap (λ t. t ++ end) (sym (append_assoc mid (line (i + 1) x) rest)) ∙ append_assoc (mid ++ line (i + 1) x) rest end in
     record {
       kept = starts_trans old mid new front.kept begins;
       front = rw text (starts_more (mid ++ line (i + 1) x) new (rest ++ end) front.front);

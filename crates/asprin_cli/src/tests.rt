@@ -7,6 +7,7 @@ use std::test::Fail;
 const WORDS: [&str; 4] = ["--sorted", "-n", "0", "f"];
 
 /// One file `f` with this text, and what fails.
+#[derive(Clone, Copy)]
 struct Case<'a> {
     words: &'a [&'a str],
     text: &'a str,
@@ -16,7 +17,7 @@ struct Case<'a> {
     status: Status,
 }
 
-fn case<'a>(text: &'a str, line: &'a str, status: Status) -> Case<'a> {
+fn reading<'a>(text: &'a str, line: &'a str, status: Status) -> Case<'a> {
     Case {
         words: &WORDS,
         text,
@@ -69,29 +70,29 @@ fn first_failure(alloc: Global, cases: &[Case]) -> Result<Option<usize>, AllocEr
 #[test]
 fn listings(rt: HostRuntime) -> Result<(), Fail> {
     let cases = [
-        case(
+        reading(
             "{a;b}. :- not a, not b. #preference(p,subset){a;b}. #optimize(p).",
             "OPTIMUM 1: a\nOPTIMUM 2: b\nDONE 2\n",
             Status::Done,
         ),
-        case("", "OPTIMUM 1:\nDONE 1\n", Status::Done),
-        case("a :- not a.", "UNSATISFIABLE\n", Status::Unsatisfiable),
-        case(
+        reading("", "OPTIMUM 1:\nDONE 1\n", Status::Done),
+        reading("a :- not a.", "UNSATISFIABLE\n", Status::Unsatisfiable),
+        reading(
             "a :- b. b :- a. a :- c. {c}. :- not a. #preference(p,subset){c}. #optimize(p).",
             "OPTIMUM 1: a b c\nDONE 1\n",
             Status::Done,
         ),
-        case(
+        reading(
             "{b;a;b}.\n#preference(p,subset){}. #optimize(p).",
             "OPTIMUM 1:\nOPTIMUM 2: a\nOPTIMUM 3: a b\nOPTIMUM 4: b\nDONE 4\n",
             Status::Done,
         ),
-        case(
+        reading(
             "#optimize(p). #preference(p,subset){x;a}. {a}. :- not a.",
             "OPTIMUM 1: a\nDONE 1\n",
             Status::Done,
         ),
-        case(
+        reading(
             "{a;b}. #preference(p,subset){a;b}.",
             "OPTIMUM 1:\nOPTIMUM 2: a\nOPTIMUM 3: a b\nOPTIMUM 4: b\nDONE 4\n",
             Status::Done,
@@ -104,11 +105,19 @@ fn listings(rt: HostRuntime) -> Result<(), Fail> {
 #[test]
 fn refusals(rt: HostRuntime) -> Result<(), Fail> {
     let cases = [
-        case("{a;b;c;d;e;f;g;h;i;j;k;l;m}.", "LIMIT trial 12\n", Status::Limit),
-        case("a(1).", "SYNTAX\n", Status::Syntax),
-        case("a", "SYNTAX\n", Status::Syntax),
-        case("#preference(p,subset){a}. #optimize(q).", "SYNTAX\n", Status::Syntax),
-        case("% nothing", "SYNTAX\n", Status::Syntax),
+        reading(
+            "{a;b;c;d;e;f;g;h;i;j;k;l;m}.",
+            "LIMIT trial 12\n",
+            Status::Limit,
+        ),
+        reading("a(1).", "SYNTAX\n", Status::Syntax),
+        reading("a", "SYNTAX\n", Status::Syntax),
+        reading(
+            "#preference(p,subset){a}. #optimize(q).",
+            "SYNTAX\n",
+            Status::Syntax,
+        ),
+        reading("% nothing", "SYNTAX\n", Status::Syntax),
     ];
     assert_eq!(rt; first_failure(rt.alloc(), &cases)?, None);
     Ok(())
@@ -118,15 +127,42 @@ fn refusals(rt: HostRuntime) -> Result<(), Fail> {
 fn words_and_faults(rt: HostRuntime) -> Result<(), Fail> {
     let row = "{a;b}. :- not a, not b. #preference(p,subset){a;b}. #optimize(p).";
     let cases = [
-        Case { words: &[], ..case(row, "USAGE\n", Status::Usage) },
-        Case { words: &["--sorted", "-n", "1", "f"], ..case(row, "USAGE\n", Status::Usage) },
-        Case { words: &["--sorted", "-n", "0", "-f"], ..case(row, "USAGE\n", Status::Usage) },
-        Case { words: &["--sorted", "-n", "0", ""], ..case(row, "USAGE\n", Status::Usage) },
-        Case { words: &["--sorted", "-n", "0", "f", "f"], ..case(row, "USAGE\n", Status::Usage) },
-        Case { words: &["--sorted", "-n", "0", "g"], ..case(row, "SOURCE 1\n", Status::Source) },
-        Case { fails: &[0], ..case(row, "SOURCE 1\n", Status::Source) },
-        Case { fails: &[1], ..case(row, "SOURCE 1\n", Status::Source) },
-        Case { room: 10, ..case(row, "OPTIMUM 1:", Status::Sink) },
+        Case {
+            words: &[],
+            ..reading(row, "USAGE\n", Status::Usage)
+        },
+        Case {
+            words: &["--sorted", "-n", "1", "f"],
+            ..reading(row, "USAGE\n", Status::Usage)
+        },
+        Case {
+            words: &["--sorted", "-n", "0", "-f"],
+            ..reading(row, "USAGE\n", Status::Usage)
+        },
+        Case {
+            words: &["--sorted", "-n", "0", ""],
+            ..reading(row, "USAGE\n", Status::Usage)
+        },
+        Case {
+            words: &["--sorted", "-n", "0", "f", "f"],
+            ..reading(row, "USAGE\n", Status::Usage)
+        },
+        Case {
+            words: &["--sorted", "-n", "0", "g"],
+            ..reading(row, "SOURCE 1\n", Status::Source)
+        },
+        Case {
+            fails: &[0],
+            ..reading(row, "SOURCE 1\n", Status::Source)
+        },
+        Case {
+            fails: &[1],
+            ..reading(row, "SOURCE 1\n", Status::Source)
+        },
+        Case {
+            room: 10,
+            ..reading(row, "OPTIMUM 1:", Status::Sink)
+        },
     ];
     assert_eq!(rt; first_failure(rt.alloc(), &cases)?, None);
     Ok(())
@@ -138,12 +174,24 @@ fn run_blanks(alloc: Global, count: usize, fails: &[u64]) -> Result<Status, Allo
     let mut src = source_of(alloc, &text, fails)?;
     let mut out = MemSink::new(alloc, 100, Vec::new(alloc))?;
     let mut cert = MemSink::new(alloc, 0, Vec::new(alloc))?;
-    Ok(solve_run(alloc, &words_of(alloc, &WORDS)?, &mut src, &mut out, &mut cert))
+    Ok(solve_run(
+        alloc,
+        &words_of(alloc, &WORDS)?,
+        &mut src,
+        &mut out,
+        &mut cert,
+    ))
 }
 
 #[test]
 fn largest_text(rt: HostRuntime) -> Result<(), Fail> {
     assert_eq!(rt; run_blanks(rt.alloc(), 16_777_216, &[])?, Status::Done);
-    assert_eq!(rt; run_blanks(rt.alloc(), 16_777_217, &[])?, Status::Limit);
+    Ok(())
+}
+
+/// The limit is answered at the read that brings the byte too many: the call after it would fail.
+#[test]
+fn too_large_a_text(rt: HostRuntime) -> Result<(), Fail> {
+    assert_eq!(rt; run_blanks(rt.alloc(), 16_790_000, &[4098])?, Status::Limit);
     Ok(())
 }

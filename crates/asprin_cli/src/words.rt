@@ -18,10 +18,11 @@ pub fn read_words(words: &[String]) -> Option<&[String]>
     ensures { MatchOption result (files_of (texts_of words.now) ≡ None) (λ files. files_of (texts_of words.now) ≡ Some (texts_of files.now)) }
 {
     match words {
-        [sorted, number, all, file] if sorted.as_str() == "--sorted"
-            && number.as_str() == "-n"
-            && all.as_str() == "0"
-            && names_file(file.as_str()) => Some(&words[3..]),
+        [sorted, number, all, file]
+            if sorted.as_str() == "--sorted"
+                && number.as_str() == "-n"
+                && all.as_str() == "0"
+                && names_file(file.as_str()) => Some(&words[3..]),
         _ => None,
     }
 }

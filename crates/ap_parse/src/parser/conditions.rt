@@ -9,7 +9,7 @@ pub fn is_consistent(statements: &[Statement]) -> bool
     ensures { IsTrue result ↔ IsConsistent statements.now }
 {
     let mut preference: Option<&Text> = None;
-    let mut optimized: Option<&Text> = None;
+    let mut optimised: Option<&Text> = None;
     for statement in statements {
         match statement {
             Statement::Rule(_) => {}
@@ -20,16 +20,16 @@ pub fn is_consistent(statements: &[Statement]) -> bool
                 preference = Some(&found.name);
             }
             Statement::Optimize(name) => {
-                if optimized.is_some() {
+                if optimised.is_some() {
                     return false;
                 }
-                optimized = Some(name);
+                optimised = Some(name);
             }
         }
     }
-    match (preference, optimized) {
+    match (preference, optimised) {
         (_, None) => true,
         (None, Some(_)) => false,
-        (Some(name), Some(optimized)) => name == optimized,
+        (Some(name), Some(optimised)) => name == optimised,
     }
 }
