@@ -1,12 +1,10 @@
 -- What the loop over a list has read.
-use Rattle.std.proofs.Common.{◌≡◌, ◌≢◌, Bool, List, [], ◌∷◌, ◌++◌, length, ◌≤◌, ◌<◌, Result, Ok, Err, IsTrue, refl, sym, ◌∙◌, ap, subst, arith, append_assoc, append-nil, length-append}
+use Rattle.std.proofs.Common.{◌≡◌, ◌≢◌, List, [], ◌∷◌, ◌++◌, Ok, IsTrue, refl, sym, ◌∙◌, ap, append_assoc, append-nil}
 use Rattle.std.proofs.lemmas.Bool.{false≢true}
 use Rattle.std.proofs.lemmas.Grind.{flat_map-append}
 use Rattle.std.specs.List.{flat_map, join_by}
-use Rattle.ap_parse.specs.declared.fault.SmallFault.{SmallFault}
-use Rattle.ap_parse.specs.declared.fault.SmallFault.TheVariants.{Syntax, Memory}
 use Rattle.ap_parse.specs.declared.token.Token.{Token}
-use Rattle.ap_parse.specs.ParseForms.{Answers, Reads, always, has_items, sign_tokens}
+use Rattle.ap_parse.specs.ParseForms.{Reads, always, has_items}
 use Rattle.ap_parse.proofs.ParsingSteps.{taken}
 
 -- a list that has items, and its end

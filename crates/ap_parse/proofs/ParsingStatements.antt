@@ -1,10 +1,8 @@
 -- How statements begin and end.
-use Rattle.std.proofs.Common.{◌≡◌, ◌≢◌, ℕ, Bool, List, [], ◌∷◌, ◌++◌, Result, Ok, Err, IsTrue, refl, sym, ◌∙◌, ap, append_assoc}
+use Rattle.std.proofs.Common.{◌≡◌, ◌≢◌, ℕ, Bool, List, [], ◌∷◌, ◌++◌, IsTrue, refl, ◌∙◌, ap, append_assoc}
 use Rattle.std.proofs.lemmas.Bool.{false≢true}
 use Rattle.std.specs.Prelude.{◌||◌}
-use Rattle.std.specs.List.{flat_map, join_by}
 use Rattle.ap_syntax.specs.declared.tree.BodyItem.{BodyItem}
-use Rattle.ap_syntax.specs.declared.tree.BodyItem.TheVariants.{Plain}
 use Rattle.ap_syntax.specs.declared.tree.HeadForm.{HeadForm}
 use Rattle.ap_syntax.specs.declared.tree.HeadForm.TheVariants.{One, Choice, Nothing}
 use Rattle.ap_syntax.specs.declared.tree.Element as elements
@@ -13,11 +11,10 @@ use Rattle.ap_syntax.specs.declared.tree.Rule as rules
 use Rattle.ap_syntax.specs.declared.tree.Statement.{Statement}
 use Rattle.ap_syntax.specs.declared.tree.Statement.TheVariants as statement
 use Rattle.ap_parse.specs.Language.{body_tokens, has_body, has_head, head_tokens, item_tokens, statement_tokens}
-use Rattle.ap_parse.specs.ParseForms.{Answers, Reads, always, ending_tokens, has_items}
+use Rattle.ap_parse.specs.ParseForms.{ending_tokens, has_items}
 use Rattle.ap_parse.specs.declared.token.Token.{Token}
 use Rattle.ap_parse.specs.declared.token.Token.TheVariants.{Dot, If, Comma}
 use Rattle.ap_parse.proofs.ParsingLists.{listed}
-use Rattle.ap_parse.proofs.ParsingSteps.{taken}
 
 -- a rule that doesn't end at once goes on with the sign, and then a body that has items
 pub sign_next : {old : List Token} → ((after : List Token) → old ≡ Dot ∷ after → ⊥) → (body : List BodyItem) (rest : List Token) → old ≡ ending_tokens body ++ rest → (old ≡ If ∷ (listed item_tokens Comma Dot body ++ rest)) × IsTrue (has_items body)

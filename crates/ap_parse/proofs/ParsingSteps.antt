@@ -1,5 +1,5 @@
 -- What follows from what a function of the parser read.
-use Rattle.std.proofs.Common.{◌≡◌, ◌≢◌, Some, Bool, List, [], ◌∷◌, ◌++◌, length, ◌≤◌, ◌<◌, Result, Ok, Err, IsTrue, refl, sym, ◌∙◌, ap, subst, arith, length-append}
+use Rattle.std.proofs.Common.{◌≡◌, ◌≢◌, Some, Bool, List, ◌++◌, length, ◌≤◌, Result, Ok, Err, IsTrue, refl, sym, ◌∙◌, ap, arith, length-append}
 use Rattle.std.proofs.lemmas.List.{append_cancel_left}
 use Rattle.std.proofs.lemmas.Result.{err_from_is_err_and}
 use Rattle.std.specs.Result.{IsErrAnd}
@@ -9,7 +9,7 @@ use Rattle.ap_parse.specs.declared.token.Token.{Token}
 use Rattle.ap_parse.specs.declared.parser.sign.Sign.{Sign}
 use Rattle.ap_parse.specs.declared.parser.sign.Sign.TheVariants as signs
 use Rattle.ap_parse.specs.ParseSigns.{sign_of, sign_token}
-use Rattle.ap_parse.specs.ParseForms.{Answers, Reads}
+use Rattle.ap_parse.specs.ParseForms.{Reads}
 
 -- a valid tree at the front of the tokens is the one that was read
 pub taken : {A : Type 0} {w : A → List Token} {v : A → Bool} {old mid : List Token} {x : A} → Reads w v old mid (Ok x) → (y : A) (rest : List Token) → old ≡ w y ++ rest → IsTrue (v y) → (y ≡ x) × (rest ≡ mid)

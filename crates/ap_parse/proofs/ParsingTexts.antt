@@ -9,7 +9,7 @@ use Rattle.std.specs.Result.{IsErrAnd}
 use Rattle.ap_parse.specs.declared.fault.SmallFault.{SmallFault}
 use Rattle.ap_parse.specs.declared.fault.SmallFault.TheVariants.{Syntax, Memory}
 use Rattle.ap_parse.specs.declared.token.Token.{Token}
-use Rattle.ap_parse.specs.ParseForms.{Answers, Reads, ReadsWhole}
+use Rattle.ap_parse.specs.ParseForms.{Reads, ReadsWhole}
 use Rattle.ap_parse.proofs.ParsingSteps.{taken}
 
 and_both : (a b : Bool) → IsTrue (a && b) → IsTrue a × IsTrue b

@@ -4,7 +4,6 @@ use Rattle.std.specs.Borrow.{Bor}
 use Rattle.std.specs.List.{filter_map, join_by, list_all}
 use Rattle.std.specs.Str.{bytes_eq}
 use Rattle.ap_syntax.specs.declared.tree.BodyItem.{BodyItem}
-use Rattle.ap_syntax.specs.declared.tree.Element as elements
 use Rattle.ap_syntax.specs.declared.tree.Preference as preferences
 use Rattle.ap_syntax.specs.declared.tree.Rule as rules
 use Rattle.ap_syntax.specs.declared.tree.Statement.{Statement}

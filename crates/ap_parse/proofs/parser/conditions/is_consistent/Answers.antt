@@ -1,4 +1,4 @@
-use Rattle.std.proofs.Common.{refl, sym, ◌∙◌, ap, arith}
+use Rattle.std.proofs.Common.{refl, ap, arith}
 use Rattle.std.proofs.lemmas.Bool.{false≢true}
 use Rattle.ap_parse.specs.Language.{optimised_by}
 use Rattle.ap_parse.proofs.ParsingConditions.{decided, first, length-preferences, passed, preference_name, second}

@@ -1,4 +1,4 @@
-use Rattle.std.proofs.Common.{◌≡◌, ◌∷◌, refl, sym, ◌∙◌, ap}
+use Rattle.std.proofs.Common.{◌∷◌, refl, sym, ◌∙◌, ap}
 use Rattle.ap_parse.specs.declared.token.Token.TheVariants.{If}
 use Rattle.ap_parse.proofs.ParsingSteps.{behind, exit, follow}
 use Rattle.ap_parse.proofs.ParsingStatements.{ending_again, sign_next}

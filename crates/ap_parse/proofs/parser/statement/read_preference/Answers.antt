@@ -1,4 +1,4 @@
-use Rattle.std.proofs.Common.{◌≡◌, ℕ, List, ◌∷◌, ◌++◌, [], refl, sym, ◌∙◌, ap, append_assoc}
+use Rattle.std.proofs.Common.{◌∷◌, ◌++◌, [], refl, sym, ◌∙◌, ap, append_assoc}
 use Rattle.ap_parse.specs.Language.{element_tokens}
 use Rattle.ap_parse.specs.ParseForms.{braces_tokens, header_tokens}
 use Rattle.ap_parse.specs.declared.parser.statement.Header.{Header}

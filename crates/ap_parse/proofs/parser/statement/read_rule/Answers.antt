@@ -1,6 +1,5 @@
-use Rattle.std.proofs.Common.{◌≡◌, ◌∷◌, ◌++◌, refl, sym, ◌∙◌, ap, append_assoc}
+use Rattle.std.proofs.Common.{◌∷◌, ◌++◌, refl, sym, ◌∙◌, ap, append_assoc}
 use Rattle.ap_parse.specs.Language.{has_body, has_head, head_tokens}
-use Rattle.ap_parse.specs.ParseForms.{ending_tokens}
 use Rattle.ap_parse.specs.declared.token.Token.TheVariants.{If}
 use Rattle.ap_parse.proofs.ParsingSteps.{behind, exit, taken}
 use Rattle.ap_parse.proofs.ParsingStatements.{constraint_next, ending_again, has_body-is, head_next, or_first, rule_is}
