@@ -1,0 +1,63 @@
+-- The printed lines, each with a line feed at its end.
+use Rattle.std.specs.Prelude.{ℕ, ◌+◌, List, [], ◌∷◌, ◌++◌, codes, Bool, true, false}
+use Rattle.std.specs.List.{flat_map}
+use Rattle.std.specs.Fmt.{decimal}
+use Rattle.ap_base.specs.declared.status.Status.{Status}
+use Rattle.ap_base.specs.declared.status.Status.TheVariants as status
+use Rattle.asprin_cli.specs.declared.end.End.{End}
+use Rattle.asprin_cli.specs.declared.end.End.TheVariants.{Source, Refused, Unsatisfiable, NoOptimum, Done}
+use Rattle.asprin_cli.specs.declared.end.Refusal.{Refusal}
+use Rattle.asprin_cli.specs.declared.end.Refusal.TheVariants.{Usage, Bytes, Syntax, Trial}
+
+-- the last line of a refusal
+abbrev pub refusal_line : Refusal → List ℕ
+refusal_line Usage = codes "USAGE\n"
+refusal_line Bytes = codes "LIMIT bytes 16777216\n"
+refusal_line Syntax = codes "SYNTAX\n"
+refusal_line Trial = codes "LIMIT trial 12\n"
+
+-- the status that it names
+abbrev pub refusal_status : Refusal → Status
+refusal_status Usage = status.Usage
+refusal_status Bytes = status.Limit
+refusal_status Syntax = status.Syntax
+refusal_status Trial = status.Limit
+
+-- the last line of a run
+abbrev pub line_of : End → List ℕ
+line_of (Source opened) = codes "SOURCE " ++ decimal opened ++ 10 ∷ []
+line_of (Refused refusal) = refusal_line refusal
+line_of Unsatisfiable = codes "UNSATISFIABLE\n"
+line_of NoOptimum = codes "NO OPTIMUM\n"
+line_of (Done count) = codes "DONE " ++ decimal count ++ 10 ∷ []
+
+-- the status that the last line names
+abbrev pub status_of : End → Status
+status_of (Source opened) = status.Source
+status_of (Refused refusal) = refusal_status refusal
+status_of Unsatisfiable = status.Unsatisfiable
+status_of NoOptimum = status.NoOptimum
+status_of (Done count) = status.Done
+
+-- an atom behind a space
+abbrev pub atom_text : List ℕ → List ℕ
+atom_text name = 32 ∷ name
+
+-- the line of a set: its number, and its atoms
+abbrev pub set_line : ℕ → List (List ℕ) → List ℕ
+set_line number set = codes "OPTIMUM " ++ decimal number ++ codes ":" ++ flat_map atom_text set ++ 10 ∷ []
+
+-- the lines of a list, numbered from here
+abbrev pub numbered : {A : Type 0} → (ℕ → A → List ℕ) → ℕ → List A → List ℕ
+numbered line number [] = []
+numbered line number (x ∷ xs) = line number x ++ numbered line (number + 1) xs
+
+-- what a run prints that lists these sets and ends so
+abbrev pub text_of : List (List (List ℕ)) → End → List ℕ
+text_of sets end = numbered set_line 1 sets ++ line_of end
+
+-- whether what was written may lack its end
+abbrev pub is_cut : Status → Bool
+is_cut status.Sink = true
+is_cut status.Memory = true
+is_cut _ = false

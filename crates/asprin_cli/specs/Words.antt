@@ -1,0 +1,24 @@
+-- What the words ask for: `--sorted -n 0 FILE`.
+use Rattle.std.specs.Prelude.{ℕ, Bool, true, false, not, ◌&&◌, ◌==◌, List, [], ◌∷◌, Option, None, Some, if◌then◌else◌, codes}
+use Rattle.std.specs.Str.{bytes_eq}
+
+-- the name of a file is not empty and begins with no dash
+abbrev pub is_file : List ℕ → Bool
+is_file [] = false
+is_file (b ∷ bs) = not (b == 45)
+
+-- the names of the files, one as yet, where the words are of this form
+abbrev pub files_of : List (List ℕ) → Option (List (List ℕ))
+files_of (sorted ∷ number ∷ all ∷ file ∷ []) =
+    if bytes_eq sorted (codes "--sorted") && bytes_eq number (codes "-n") && bytes_eq all (codes "0") && is_file file
+    then Some (file ∷ [])
+    else None
+files_of _ = None
+
+abbrev pub names_in : Option (List (List ℕ)) → List (List ℕ)
+names_in None = []
+names_in (Some files) = files
+
+-- the names that the words ask for
+abbrev pub asks_for : List (List ℕ) → List (List ℕ)
+asks_for words = names_in (files_of words)

@@ -1,0 +1,18 @@
+//! A run of `asprin`, from words and a file to printed lines.
+#![tactic(auto)]
+
+mod end;
+mod input;
+mod listing;
+mod print;
+mod quit;
+mod run;
+mod stop;
+#[cfg(test)]
+mod tests;
+mod words;
+
+pub use end::{End, Refusal};
+pub use quit::Quit;
+pub use run::solve_run;
+pub use stop::Stop;

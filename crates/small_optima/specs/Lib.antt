@@ -1,0 +1,10 @@
+pub mod Adds
+pub mod Answers
+pub mod Atoms
+pub mod Preferred
+pub mod Optimal
+pub mod Optima
+pub mod Kept
+pub mod Sublists
+pub mod Marks
+pub mod Unbeaten

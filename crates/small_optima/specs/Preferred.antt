@@ -1,0 +1,49 @@
+-- Which of two sets of atoms is better under the type `subset`, and which is preferred under a program's `#optimize`
+-- (Brewka, Delgrande, Romero and Schaub 2015).
+use Rattle.std.specs.Prelude.{ℕ, Bool, false, not, ◌&&◌, ◌||◌, List, [], ◌∷◌, Option, None, Some, if◌then◌else◌}
+use Rattle.std.specs.List.{list_all}
+use Rattle.std.specs.Str.{bytes_eq}
+use Rattle.ap_syntax.specs.declared.tree.Element.{Element}
+use Rattle.ap_syntax.specs.declared.tree.Formula.{Formula}
+use Rattle.ap_syntax.specs.declared.tree.Formula.TheVariants.{Atom}
+use Rattle.ap_syntax.specs.declared.tree.Preference.{Preference}
+use Rattle.ap_syntax.specs.declared.tree.Program.{Program}
+use Rattle.ap_eval.specs.AtomSets.{AtomSet}
+use Rattle.ap_parse.specs.Language.{optimized_of, preferences_of}
+
+abbrev pub formula_true : AtomSet → Formula → Bool
+formula_true x (Atom atom) = x atom.name
+
+-- whether x satisfies an element
+abbrev pub satisfies : AtomSet → Element → Bool
+satisfies x element = formula_true x element.formula
+
+-- y satisfies each of the elements that x satisfies
+abbrev pub is_part : List Element → AtomSet → AtomSet → Bool
+is_part elements x y = list_all (λ (element : Element). not (satisfies x element) || satisfies y element) elements
+
+-- under `subset` x is better than y where what x satisfies is a proper part of what y satisfies
+abbrev pub is_better : List Element → AtomSet → AtomSet → Bool
+is_better elements x y = is_part elements x y && not (is_part elements y x)
+
+-- the first preference statement of this name
+abbrev pub preference_named : List ℕ → List Preference → Option Preference
+preference_named name [] = None
+preference_named name (preference ∷ preferences) =
+    if bytes_eq preference.name name then Some preference else preference_named name preferences
+
+abbrev pub optimised_in : List Preference → List (List ℕ) → Option Preference
+optimised_in preferences [] = None
+optimised_in preferences (name ∷ names) = preference_named name preferences
+
+-- the preference statement that `#optimize` names
+abbrev pub optimised : Program → Option Preference
+optimised p = optimised_in (preferences_of p) (optimized_of p)
+
+abbrev pub prefers_by : Option Preference → AtomSet → AtomSet → Bool
+prefers_by None x y = false
+prefers_by (Some preference) x y = is_better preference.elements x y
+
+-- whether x is preferred to y; without `#optimize` no set is preferred to another
+abbrev pub prefers : Program → AtomSet → AtomSet → Bool
+prefers p x y = prefers_by (optimised p) x y
