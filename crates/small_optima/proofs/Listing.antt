@@ -95,5 +95,5 @@ module _ (p : Program) (found best : List (List (List ℕ))) (answers : AreAnswe
   some_optimal first c =
       let elements = elements_of (optimised p) in
       let least = some_unbeaten (λ x y. prefers p (has x) (has y)) (λ set. passing (satisfies (has set)) elements)
-          (λ x y h. better_has_fewer elements (has x) (has y) (sym (prefers-elements (optimised p) (has x) (has y)) ∙ h)) found first c in
+      (λ x y h. better_has_fewer elements (has x) (has y) (sym (prefers-elements (optimised p) (has x) (has y)) ∙ h)) found first c in
       let still = Contains-kept (IsUnbeatenIn p found) least.0 kept least.1 least.2 in omega arith

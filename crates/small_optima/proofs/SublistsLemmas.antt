@@ -28,17 +28,21 @@ module _ {A : Type 0} (cmp : A → A → Ordering) where
   each_member : (P : A → Type 0) (xs : List A) → AllByRecursion P xs → AllByRecursion (AllByRecursion P) (nonempty_sublists xs)
   each_member P [] h = tt
   each_member P (x ∷ xs) h =
-      let later = each_member P xs h.1 in
-      ((h.0, tt), each-append (AllByRecursion P) (map (λ ys. x ∷ ys) (nonempty_sublists xs)) (nonempty_sublists xs)
-      (each-map (AllByRecursion P) (λ ys. x ∷ ys) (nonempty_sublists xs) (each-weaker (AllByRecursion P) (λ ys. AllByRecursion P (x ∷ ys)) (λ ys each. (h.0, each)) (nonempty_sublists xs) later)) later)
+      let later = each_member P xs h.1 in (
+        (h.0, tt),
+        each-append (AllByRecursion P) (map (λ ys. x ∷ ys) (nonempty_sublists xs)) (nonempty_sublists xs)
+            (each-map (AllByRecursion P) (λ ys. x ∷ ys) (nonempty_sublists xs) (each-weaker (AllByRecursion P) (λ ys. AllByRecursion P (x ∷ ys)) (λ ys each. (h.0, each)) (nonempty_sublists xs) later)) later,
+      )
 
   each_sorted_from : (xs : List A) → IsStrictlySortedBy cmp xs → AllByRecursion (IsStrictlySortedBy cmp) (nonempty_sublists xs)
   unfolding IsStrictlySortedBy
   each_sorted_from [] s = tt
   each_sorted_from (x ∷ xs) s =
-      let later = each_sorted_from xs s.1 in
-      ((tt, tt), each-append (IsStrictlySortedBy cmp) (map (λ ys. x ∷ ys) (nonempty_sublists xs)) (nonempty_sublists xs)
-      (each-map (IsStrictlySortedBy cmp) (λ ys. x ∷ ys) (nonempty_sublists xs) (joined (nonempty_sublists xs) (each_member (λ y. cmp x y ≡ Less) xs s.0) later)) later)
+      let later = each_sorted_from xs s.1 in (
+        (tt, tt),
+        each-append (IsStrictlySortedBy cmp) (map (λ ys. x ∷ ys) (nonempty_sublists xs)) (nonempty_sublists xs)
+            (each-map (IsStrictlySortedBy cmp) (λ ys. x ∷ ys) (nonempty_sublists xs) (joined (nonempty_sublists xs) (each_member (λ y. cmp x y ≡ Less) xs s.0) later)) later,
+      )
     where
       joined : (yss : List (List A)) → AllByRecursion (AllByRecursion (λ y. cmp x y ≡ Less)) yss → AllByRecursion (IsStrictlySortedBy cmp) yss → AllByRecursion (λ ys. IsStrictlySortedBy cmp (x ∷ ys)) yss
       joined [] h k = tt
@@ -51,17 +55,21 @@ module _ {A : Type 0} (cmp : A → A → Ordering) where
 
   after_empty : (xs : List A) → AllByRecursion (λ ys. slice_cmp cmp [] ys ≡ Less) (nonempty_sublists xs)
   after_empty [] = tt
-  after_empty (x ∷ xs) =
-      (refl, each-append (λ ys. slice_cmp cmp [] ys ≡ Less) (map (λ ys. x ∷ ys) (nonempty_sublists xs)) (nonempty_sublists xs)
-      (each-map (λ ys. slice_cmp cmp [] ys ≡ Less) (λ ys. x ∷ ys) (nonempty_sublists xs) (each-always (λ ys. slice_cmp cmp [] (x ∷ ys) ≡ Less) (λ ys. refl) (nonempty_sublists xs))) (after_empty xs))
+  after_empty (x ∷ xs) = (
+    refl,
+    each-append (λ ys. slice_cmp cmp [] ys ≡ Less) (map (λ ys. x ∷ ys) (nonempty_sublists xs)) (nonempty_sublists xs)
+        (each-map (λ ys. slice_cmp cmp [] ys ≡ Less) (λ ys. x ∷ ys) (nonempty_sublists xs) (each-always (λ ys. slice_cmp cmp [] (x ∷ ys) ≡ Less) (λ ys. refl) (nonempty_sublists xs))) (after_empty xs),
+  )
 
   -- a list that begins with what is below xs is below the sublists of xs
   after_lower : (x : A) (front xs : List A) → AllByRecursion (λ y. cmp x y ≡ Less) xs → AllByRecursion (λ ys. slice_cmp cmp (x ∷ front) ys ≡ Less) (nonempty_sublists xs)
   after_lower x front [] h = tt
   after_lower x front (y ∷ ys) h =
-      let lower = λ (more : List A). ap (λ o. ordering_then o (slice_cmp cmp front more)) h.0 in
-      (lower [], each-append (λ zs. slice_cmp cmp (x ∷ front) zs ≡ Less) (map (λ zs. y ∷ zs) (nonempty_sublists ys)) (nonempty_sublists ys)
-      (each-map (λ zs. slice_cmp cmp (x ∷ front) zs ≡ Less) (λ zs. y ∷ zs) (nonempty_sublists ys) (each-always (λ zs. slice_cmp cmp (x ∷ front) (y ∷ zs) ≡ Less) lower (nonempty_sublists ys))) (after_lower x front ys h.1))
+      let lower = λ (more : List A). ap (λ o. ordering_then o (slice_cmp cmp front more)) h.0 in (
+        lower [],
+        each-append (λ zs. slice_cmp cmp (x ∷ front) zs ≡ Less) (map (λ zs. y ∷ zs) (nonempty_sublists ys)) (nonempty_sublists ys)
+            (each-map (λ zs. slice_cmp cmp (x ∷ front) zs ≡ Less) (λ zs. y ∷ zs) (nonempty_sublists ys) (each-always (λ zs. slice_cmp cmp (x ∷ front) (y ∷ zs) ≡ Less) lower (nonempty_sublists ys))) (after_lower x front ys h.1),
+      )
 
   module _ (order : IsTotalOrder cmp) where
     same_first : (x : A) (ys zs : List A) → slice_cmp cmp ys zs ≡ Less → slice_cmp cmp (x ∷ ys) (x ∷ zs) ≡ Less
@@ -74,8 +82,8 @@ module _ {A : Type 0} (cmp : A → A → Ordering) where
         let later = nonempty_sublists xs in
         let with_x = map (λ ys. x ∷ ys) later in
         let first = each-append (λ ys. slice_cmp cmp (x ∷ []) ys ≡ Less) with_x later
-            (each-map (λ ys. slice_cmp cmp (x ∷ []) ys ≡ Less) (λ ys. x ∷ ys) later (each-weaker (λ ys. slice_cmp cmp [] ys ≡ Less) (λ ys. slice_cmp cmp (x ∷ []) (x ∷ ys) ≡ Less) (same_first x []) later (after_empty xs)))
-            (after_lower x [] xs s.0) in
+        (each-map (λ ys. slice_cmp cmp (x ∷ []) ys ≡ Less) (λ ys. x ∷ ys) later (each-weaker (λ ys. slice_cmp cmp [] ys ≡ Less) (λ ys. slice_cmp cmp (x ∷ []) (x ∷ ys) ≡ Less) (same_first x []) later (after_empty xs)))
+        (after_lower x [] xs s.0) in
         let crossed = each-map (λ zs. AllByRecursion (λ ys. slice_cmp cmp zs ys ≡ Less) later) (λ ys. x ∷ ys) later (each-always (λ zs. AllByRecursion (λ ys. slice_cmp cmp (x ∷ zs) ys ≡ Less) later) (λ zs. after_lower x zs xs s.0) later) in
         let rest = nonempty_in_order xs s.1 in
         (first, IsStrictlySortedBy-append (slice_cmp cmp) with_x later (IsStrictlySortedBy-map (slice_cmp cmp) (slice_cmp cmp) (λ ys. x ∷ ys) (same_first x) later rest) rest crossed)

@@ -20,7 +20,8 @@ fn answer_sets(
     p: &Program,
     sets: Vec<Items<Text>>,
 ) -> Result<Vec<Items<Text>>, AllocError>
-    ensures { IfOk result (λ found. Kept (λ (set : List (List ℕ)). IsAnswerSet p.now (has set)) sets.items found.items) }
+    ensures { IfOk result
+        (λ found. Kept (λ (set : List (List ℕ)). IsAnswerSet p.now (has set)) sets.items found.items) }
 {
     let mut found = Vec::new(alloc);
     for set in sets {

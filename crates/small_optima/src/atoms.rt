@@ -25,6 +25,7 @@ struct FewAtoms {
 }
 
 impl FewAtoms {
+    /// No atoms.
     fn new(alloc: Global) -> FewAtoms
         ensures { result.names.keys ≡ [] }
     {
@@ -33,9 +34,11 @@ impl FewAtoms {
         }
     }
 
+    /// Adds an atom, unless it is there.
     fn add(&mut self, alloc: Global, name: &Text) -> Result<(), TrialFault>
         ensures added { OnOk result (Adds self.old.names.keys (name.now ∷ []) self.new.names.keys) }
-        ensures many { result ≡ Err TrialFault.TooMany → ExceedsTwelve self.old.names.keys (name.now ∷ []) }
+        ensures many { result ≡ Err TrialFault.TooMany
+            → ExceedsTwelve self.old.names.keys (name.now ∷ []) }
     {
         if self.names.contains(name) {
             return Ok(());
@@ -47,9 +50,12 @@ impl FewAtoms {
         Ok(())
     }
 
+    /// Adds the atoms of a choice.
     fn add_elements(&mut self, alloc: Global, elements: &[ChoiceElement]) -> Result<(), TrialFault>
-        ensures added { OnOk result (Adds self.old.names.keys (map element_name elements.now) self.new.names.keys) }
-        ensures many { result ≡ Err TrialFault.TooMany → ExceedsTwelve self.old.names.keys (map element_name elements.now) }
+        ensures added { OnOk result
+            (Adds self.old.names.keys (map element_name elements.now) self.new.names.keys) }
+        ensures many { result ≡ Err TrialFault.TooMany
+            → ExceedsTwelve self.old.names.keys (map element_name elements.now) }
     {
         for element in elements {
             self.add(alloc, &element.atom.name)?;
@@ -57,9 +63,12 @@ impl FewAtoms {
         Ok(())
     }
 
+    /// Adds the atoms of a head.
     fn add_head(&mut self, alloc: Global, head: &HeadForm) -> Result<(), TrialFault>
-        ensures added { OnOk result (Adds self.old.names.keys (head_names head.now) self.new.names.keys) }
-        ensures many { result ≡ Err TrialFault.TooMany → ExceedsTwelve self.old.names.keys (head_names head.now) }
+        ensures added { OnOk result
+            (Adds self.old.names.keys (head_names head.now) self.new.names.keys) }
+        ensures many { result ≡ Err TrialFault.TooMany
+            → ExceedsTwelve self.old.names.keys (head_names head.now) }
     {
         match head {
             HeadForm::One(atom) => self.add(alloc, &atom.name),
@@ -68,18 +77,24 @@ impl FewAtoms {
         }
     }
 
+    /// Adds the atom of a part of a body.
     fn add_item(&mut self, alloc: Global, item: &BodyItem) -> Result<(), TrialFault>
-        ensures added { OnOk result (Adds self.old.names.keys (literal_name (literal_of item.now) ∷ []) self.new.names.keys) }
-        ensures many { result ≡ Err TrialFault.TooMany → ExceedsTwelve self.old.names.keys (literal_name (literal_of item.now) ∷ []) }
+        ensures added { OnOk result
+            (Adds self.old.names.keys (literal_name (literal_of item.now) ∷ []) self.new.names.keys) }
+        ensures many { result ≡ Err TrialFault.TooMany
+            → ExceedsTwelve self.old.names.keys (literal_name (literal_of item.now) ∷ []) }
     {
         match item {
             BodyItem::Plain(Literal::Pos(atom) | Literal::Not(atom)) => self.add(alloc, &atom.name),
         }
     }
 
+    /// Adds the atoms of a body.
     fn add_body(&mut self, alloc: Global, body: &[BodyItem]) -> Result<(), TrialFault>
-        ensures added { OnOk result (Adds self.old.names.keys (map literal_name (map literal_of body.now)) self.new.names.keys) }
-        ensures many { result ≡ Err TrialFault.TooMany → ExceedsTwelve self.old.names.keys (map literal_name (map literal_of body.now)) }
+        ensures added { OnOk result
+            (Adds self.old.names.keys (map literal_name (map literal_of body.now)) self.new.names.keys) }
+        ensures many { result ≡ Err TrialFault.TooMany
+            → ExceedsTwelve self.old.names.keys (map literal_name (map literal_of body.now)) }
     {
         for item in body {
             self.add_item(alloc, item)?;
@@ -87,9 +102,12 @@ impl FewAtoms {
         Ok(())
     }
 
+    /// Adds the atoms of a rule.
     fn add_rule(&mut self, alloc: Global, rule: &Rule) -> Result<(), TrialFault>
-        ensures added { OnOk result (Adds self.old.names.keys (rule_names rule.now) self.new.names.keys) }
-        ensures many { result ≡ Err TrialFault.TooMany → ExceedsTwelve self.old.names.keys (rule_names rule.now) }
+        ensures added { OnOk result
+            (Adds self.old.names.keys (rule_names rule.now) self.new.names.keys) }
+        ensures many { result ≡ Err TrialFault.TooMany
+            → ExceedsTwelve self.old.names.keys (rule_names rule.now) }
     {
         self.add_head(alloc, &rule.head)?;
         self.add_body(alloc, rule.body.as_slice())
@@ -102,14 +120,14 @@ impl FewAtoms {
         ensures few { OnOk result (btree_set_len self.names ≤ 12) }
     {
         let FewAtoms { names } = self;
-        let _count = names.len();
         names.into_iter().collect(alloc)
     }
 }
 
 /// The atoms of the rules in order, each once. `TooMany` comes where they are more than 12, as soon as that is seen.
 pub fn atoms_to_try(alloc: Global, p: &Program) -> Result<Vec<Text>, TrialFault>
-    ensures same { IfOk result (λ atoms. (name : List ℕ) → has atoms.items name ≡ has (names_of p.now) name) }
+    ensures same { IfOk result
+        (λ atoms. (name : List ℕ) → has atoms.items name ≡ has (names_of p.now) name) }
     ensures sorted { IfOk result (λ atoms. IsStrictlySortedBy atom_cmp atoms.items) }
     ensures few { OnOk result (atom_count p.now ≤ 12) }
     ensures many { result ≡ Err TrialFault.TooMany → 12 < atom_count p.now }

@@ -6,6 +6,8 @@ mod atoms;
 mod optima;
 mod preferred;
 mod subsets;
+#[cfg(test)]
+mod tests;
 
 pub use atoms::MOST_ATOMS;
 pub use optima::{Optima, TrialFault, list_optima};

@@ -112,7 +112,8 @@ pub fn unbeaten_sets(
     p: &Program,
     sets: Vec<Items<Text>>,
 ) -> Result<Vec<Items<Text>>, AllocError>
-    ensures { IfOk result (λ unbeaten. Kept (IsUnbeatenIn p.now sets.items) sets.items unbeaten.items) }
+    ensures { IfOk result
+        (λ unbeaten. Kept (IsUnbeatenIn p.now sets.items) sets.items unbeaten.items) }
 {
     let elements = elements_to_compare(p);
     let rows = all_marks(alloc, elements, sets.as_slice())?;

@@ -6,17 +6,6 @@ use ap_syntax::Text;
 use sqlite_items::Items;
 use std::alloc::{AllocError, Global};
 
-/// An equal list.
-fn copy_set(alloc: Global, set: &[Text]) -> Result<Items<Text>, AllocError>
-    ensures { IfOk result (λ copy. copy ≡ set.now) }
-{
-    let mut copy = Items::new(alloc);
-    for atom in set {
-        copy.push(atom.copy(alloc)?)?;
-    }
-    Ok(copy)
-}
-
 /// The set of this atom and those of another set, the former first.
 fn with_atom(alloc: Global, atom: &Text, set: &[Text]) -> Result<Items<Text>, AllocError>
     ensures { IfOk result (λ all. all ≡ atom.now ∷ set.now) }
@@ -36,7 +25,8 @@ fn push_with_atom(
     atom: &Text,
     sets: &[Items<Text>],
 ) -> Result<(), AllocError>
-    ensures { OnOk result (all.new.items ≡ all.old.items ++ map (λ (set : List (List ℕ)). atom.now ∷ set) sets.now) }
+    ensures { OnOk result
+        (all.new.items ≡ all.old.items ++ map (λ (set : List (List ℕ)). atom.now ∷ set) sets.now) }
 {
     for set in sets {
         all.push(with_atom(alloc, atom, set.as_slice())?)?;

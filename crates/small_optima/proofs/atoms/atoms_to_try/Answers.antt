@@ -55,12 +55,12 @@ loop-statement-preserved c =
     let new = c.match-statement.atoms.names.keys in
     let step = Adds-more names names-append [] mid new statements c.loop-statement.statement-index c.statement-item.result c.loop-statement-test.true c.statement-item.is c.loop-statement.invariant in
     elim c.match-statement.branch [
-      in-Rule+in_ok-add_rule w ↦
-        let added = subst (λ atoms. Adds mid (rule_names w.in-Rule.rule) atoms.names.keys) (sym w.atoms-is) w.in_ok-add_rule.ensures.added in
-        step (subst (λ statement. Adds mid (names (statement ∷ [])) new) (sym w.in-Rule.is) (subst (λ more. Adds mid more new) (sym (append-nil (rule_names w.in-Rule.rule))) added))
-    | in_default w ↦
-        let kept = subst (λ atoms. Adds mid [] atoms.names.keys) (sym w.atoms-is) (Adds-none mid) in
-        step (subst (λ more. Adds mid more new) (sym (no_names c.statement-item.result w.in_default.not-Rule)) kept)
+      | in-Rule+in_ok-add_rule w ↦
+          let added = subst (λ atoms. Adds mid (rule_names w.in-Rule.rule) atoms.names.keys) (sym w.atoms-is) w.in_ok-add_rule.ensures.added in
+          step (subst (λ statement. Adds mid (names (statement ∷ [])) new) (sym w.in-Rule.is) (subst (λ more. Adds mid more new) (sym (append-nil (rule_names w.in-Rule.rule))) added))
+      | in_default w ↦
+          let kept = subst (λ atoms. Adds mid [] atoms.names.keys) (sym w.atoms-is) (Adds-none mid) in
+          step (subst (λ more. Adds mid more new) (sym (no_names c.statement-item.result w.in_default.not-Rule)) kept)
     ]
 
 pub returns-clause-few : goal.returns-clause-few

@@ -18,6 +18,7 @@ returns-clause-found c =
     let p = c.args.p.now in let found = c.in_ok-found.found in let best = c.in_ok-unbeaten_sets.field-0.items in
     let some : found.len ≢ 0 = eqb-false found.len 0 (sym c.is_empty.ensures ∙ c.if-is_empty.false) in
     let len = found.ok.0 in
-    let lt : 0 < length found.items = omega arith in
-    (is_sorted_listing p found.items best c.in_ok-found.ensures.found c.in_ok-unbeaten_sets.ensures,
-     some_optimal p found.items best c.in_ok-found.ensures.found c.in_ok-unbeaten_sets.ensures _ (Contains-get_or found.items 0 [] lt))
+    let lt : 0 < length found.items = omega arith in (
+      is_sorted_listing p found.items best c.in_ok-found.ensures.found c.in_ok-unbeaten_sets.ensures,
+      some_optimal p found.items best c.in_ok-found.ensures.found c.in_ok-unbeaten_sets.ensures _ (Contains-get_or found.items 0 [] lt),
+    )
