@@ -79,6 +79,7 @@ pub fn read_all<S: Source>(
         reading_of (S.held src.old) (texts_of names.now) MAX_BYTES ≡ AllRead (bytes_of files.items)) }
     ensures kept { OnOk result (S.faults src.new ≡ S.faults src.old) }
     ensures opens { OnOk result (S.opens src.new ≡ counted (S.opens src.old) (length names.now)) }
+    ensures most_opens { S.opens src.new ≤ counted (S.opens src.old) (length names.now) }
     ensures cause { IfErr result (ReadFaultCause S.tells (reading_of (S.held src.old) (texts_of names.now) MAX_BYTES)
         (S.faults src.old) (S.faults src.new) (S.opens src.old) (S.opens src.new)) }
     ensures before { IfErr result (ReadBefore S.tells (S.held src.old) (texts_of names.now) MAX_BYTES) }

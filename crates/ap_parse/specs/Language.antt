@@ -7,7 +7,7 @@
 --             | "#optimize" "(" IDENT ")" "."
 --   head      = IDENT | "{" [ IDENT { ";" IDENT } ] "}"
 --   body      = literal { "," literal }        literal = [ "not" ] IDENT
-use Rattle.std.specs.Prelude.{◌≡◌, ℕ, ◌≤◌, Bool, true, false, not, ◌||◌, List, [], ◌∷◌, ◌++◌, length, map, All, IsTrue, Option, None, Some, codes}
+use Rattle.std.specs.Prelude.{ℕ, ◌≤◌, Bool, true, false, ◌||◌, List, [], ◌∷◌, ◌++◌, length, IsTrue, Option, None, Some, codes}
 use Rattle.std.specs.List.{list_all, list_any, filter_map, flat_map, join_by}
 use Rattle.std.specs.Str.{bytes_eq}
 use Rattle.ap_syntax.specs.declared.tree.Atom.{Atom}

@@ -1,6 +1,7 @@
 // From the words to the optimal sets of the text that they name.
-ghost use Rattle.std.specs.Prelude.{◌≡◌, ◌↔◌, None, IsTrue, IfOk, IfErr, OnOk};
+ghost use Rattle.std.specs.Prelude.{◌≡◌, ◌≤◌, ◌↔◌, None, length, IsTrue, IfOk, IfErr, OnOk};
 ghost use Rattle.std.specs.List.{concat};
+ghost use Rattle.ap_base.specs.Counts.{counted};
 ghost use Rattle.ap_base.specs.Readings.{AllHeld, bytes_of, texts_of};
 ghost use Rattle.asprin_cli.specs.Given.{Text, given_by};
 ghost use Rattle.asprin_cli.specs.Listed.{AreOptimaOf};
@@ -32,6 +33,7 @@ pub fn read_text<S: Source>(alloc: Global, words: &[String], src: &mut S) -> Res
     ensures usage { (files_of (texts_of words.now) ≡ None) ↔ (result ≡ Err (Stop.Refused Refusal.Usage)) }
     ensures stop { IfErr result (ReadStop S.tells (given_by (texts_of words.now) (S.held src.old))
         (S.faults src.old) (S.faults src.new) (S.opens src.old) (S.opens src.new)) }
+    ensures opens { S.opens src.new ≤ counted (S.opens src.old) (length (asks_for (texts_of words.now))) }
     ensures absent { IsTrue S.tells → AllHeld (S.held src.old) (asks_for (texts_of words.now)) → S.absent src.new ≡ S.absent src.old }
 {
     let Some(names) = read_words(words) else {

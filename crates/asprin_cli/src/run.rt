@@ -1,6 +1,6 @@
 // The run.
-ghost use Rattle.std.specs.Prelude.{◌≡◌, ◌≢◌, ◌++◌, None, false, true, IsTrue};
-ghost use Rattle.ap_base.specs.Counts.{Rose};
+ghost use Rattle.std.specs.Prelude.{◌≡◌, ◌≢◌, ◌≤◌, ◌++◌, None, length, false, true, IsTrue};
+ghost use Rattle.ap_base.specs.Counts.{Rose, counted};
 ghost use Rattle.ap_base.specs.Readings.{AllHeld, texts_of};
 ghost use Rattle.asprin_cli.specs.Given.{given_by};
 ghost use Rattle.asprin_cli.specs.Lines.{is_cut};
@@ -81,6 +81,8 @@ pub fn solve_run<S: Source, O: Sink, C: Sink>(
     ensures source { result ≡ Status.Source → Rose (S.faults src.old) (S.faults src.new) }
     ensures no_source { result ≢ Status.Source → is_cut result ≡ false → S.faults src.new ≡ S.faults src.old }
 
+    // Each file that the words name is opened at most once, and nothing else is.
+    ensures opens { S.opens src.new ≤ counted (S.opens src.old) (length (asks_for (texts_of words.now))) }
     // A name that is not held is opened only where the words have one.
     ensures absent { IsTrue S.tells → AllHeld (S.held src.old) (asks_for (texts_of words.now)) → S.absent src.new ≡ S.absent src.old }
     ensures certificate { cert.new ≡ cert.old }
