@@ -1,5 +1,5 @@
 -- Sets of atoms. A set is given by its test on the names of atoms.
-use Rattle.std.specs.Prelude.{◌≡◌, ℕ, Bool, List, IsTrue}
+use Rattle.std.specs.Prelude.{ℕ, Bool, List, IsTrue}
 use Rattle.std.specs.List.{list_any}
 use Rattle.std.specs.Str.{bytes_eq}
 

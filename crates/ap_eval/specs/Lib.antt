@@ -1,3 +1,4 @@
 pub mod AtomSets
 pub mod Reduct
 pub mod AnswerSets
+pub mod Derivations

@@ -5,6 +5,13 @@ ghost use Rattle.std.specs.Prelude.{◌↔◌, IfOk, IsTrue};
 ghost use Rattle.ap_eval.specs.AtomSets.{has};
 ghost use Rattle.ap_eval.specs.AnswerSets.{IsAnswerSet};
 
+mod derive;
+mod model;
+#[cfg(test)]
+mod tests;
+
+use crate::derive::is_founded;
+use crate::model::is_model;
 use ap_syntax::{Program, Text};
 use std::alloc::{AllocError, Global};
 
@@ -15,9 +22,10 @@ use std::alloc::{AllocError, Global};
 pub fn small_answer_set(alloc: Global, p: &Program, x: &[Text]) -> Result<bool, AllocError>
     ensures { IfOk result (λ answer. IsTrue answer ↔ IsAnswerSet p.now (has x.now)) }
 {
-    let _unused: Vec<u8> = Vec::new(alloc);
-    if x.is_empty() && p.statements.is_empty() {
-        return Err(AllocError);
+    let statements = p.statements.as_slice();
+    if is_model(statements, x) {
+        is_founded(alloc, statements, x)
+    } else {
+        Ok(false)
     }
-    Err(AllocError)
 }

@@ -100,14 +100,14 @@ preference_of (statement.Optimize name) = None
 abbrev pub preferences_of : Program → List preferences.Preference
 preferences_of p = filter_map preference_of p.statements
 
-abbrev pub optimized_by : Statement → Option (List ℕ)
-optimized_by (statement.Rule rule) = None
-optimized_by (statement.Preference preference) = None
-optimized_by (statement.Optimize name) = Some name
+abbrev pub optimised_by : Statement → Option (List ℕ)
+optimised_by (statement.Rule rule) = None
+optimised_by (statement.Preference preference) = None
+optimised_by (statement.Optimize name) = Some name
 
 -- the names that its `#optimize` statements have
-abbrev pub optimized_of : Program → List (List ℕ)
-optimized_of p = filter_map optimized_by p.statements
+abbrev pub optimised_of : Program → List (List ℕ)
+optimised_of p = filter_map optimised_by p.statements
 
 -- whether some preference statement has this name
 abbrev pub is_declared : Program → List ℕ → Bool
@@ -117,8 +117,8 @@ is_declared p name = list_any (λ (preference : preferences.Preference). bytes_e
 pub record IsProgram (p : Program) : Type 0 where
   pub statements : IsTrue (list_all is_statement p.statements)
   pub one_preference : length (preferences_of p) ≤ 1
-  pub one_optimize : length (optimized_of p) ≤ 1
-  pub declared : IsTrue (list_all (is_declared p) (optimized_of p))
+  pub one_optimize : length (optimised_of p) ≤ 1
+  pub declared : IsTrue (list_all (is_declared p) (optimised_of p))
 
 -- the text is in the language, for this program
 pub record InLanguage (text : List ℕ) (p : Program) : Type 0 where

@@ -1,4 +1,6 @@
--- The tokens of a text. Blanks separate them, and at each place the longest token is taken.
+-- The tokens of a text. Blanks separate them, and at each place the longest token is taken. (Of the signs of the whole
+-- language only those of the small one stand here. The longer sign `..` would take two dots in a row, and no text of the
+-- small language has these.)
 use Rattle.std.specs.Prelude.{◌≡◌, ℕ, Bool, true, false, not, ◌&&◌, ◌||◌, ◌==◌, List, [], ◌∷◌, ◌++◌, IsTrue, codes, nat_le, if◌then◌else◌}
 use Rattle.std.specs.List.{list_all}
 use Rattle.std.specs.Str.{bytes_eq}

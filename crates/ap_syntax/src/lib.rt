@@ -5,4 +5,7 @@ mod text;
 mod tree;
 
 pub use text::Text;
-pub use tree::{Atom, BodyItem, ChoiceElement, Element, Formula, HeadForm, Literal, Preference, Program, Rule, Statement};
+pub use tree::{
+    Atom, BodyItem, ChoiceElement, Element, Formula, HeadForm, Literal, Preference, Program, Rule,
+    Statement,
+};

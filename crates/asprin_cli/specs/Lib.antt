@@ -1,5 +1,7 @@
 pub mod Words
 pub mod Lines
-pub mod Fronts
+pub mod Given
 pub mod Quits
 pub mod Outcomes
+pub mod Stops
+pub mod Listed

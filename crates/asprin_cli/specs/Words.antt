@@ -7,15 +7,18 @@ abbrev pub is_file : List ℕ → Bool
 is_file [] = false
 is_file (b ∷ bs) = not (b == 45)
 
--- the name of the file, where the words are of this form
-abbrev pub file_of : List (List ℕ) → Option (List ℕ)
-file_of (sorted ∷ number ∷ all ∷ file ∷ []) =
+-- the names of the files, one as yet, where the words are of this form
+abbrev pub files_of : List (List ℕ) → Option (List (List ℕ))
+files_of (sorted ∷ number ∷ all ∷ file ∷ []) =
     if bytes_eq sorted (codes "--sorted") && bytes_eq number (codes "-n") && bytes_eq all (codes "0") && is_file file
-    then Some file
+    then Some (file ∷ [])
     else None
-file_of _ = None
+files_of _ = None
 
--- the names of the files that the words ask for
-abbrev pub files_in : Option (List ℕ) → List (List ℕ)
-files_in None = []
-files_in (Some file) = file ∷ []
+abbrev pub names_in : Option (List (List ℕ)) → List (List ℕ)
+names_in None = []
+names_in (Some files) = files
+
+-- the names that the words ask for
+abbrev pub asks_for : List (List ℕ) → List (List ℕ)
+asks_for words = names_in (files_of words)

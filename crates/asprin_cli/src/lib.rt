@@ -2,9 +2,17 @@
 #![tactic(auto)]
 
 mod end;
+mod input;
+mod listing;
 mod print;
 mod quit;
+mod run;
+mod stop;
+#[cfg(test)]
+mod tests;
 mod words;
 
 pub use end::{End, Refusal};
 pub use quit::Quit;
+pub use run::solve_run;
+pub use stop::Stop;

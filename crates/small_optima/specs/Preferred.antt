@@ -9,7 +9,7 @@ use Rattle.ap_syntax.specs.declared.tree.Formula.TheVariants.{Atom}
 use Rattle.ap_syntax.specs.declared.tree.Preference.{Preference}
 use Rattle.ap_syntax.specs.declared.tree.Program.{Program}
 use Rattle.ap_eval.specs.AtomSets.{AtomSet}
-use Rattle.ap_parse.specs.Language.{optimized_of, preferences_of}
+use Rattle.ap_parse.specs.Language.{optimised_of, preferences_of}
 
 abbrev pub formula_true : AtomSet → Formula → Bool
 formula_true x (Atom atom) = x atom.name
@@ -38,7 +38,7 @@ optimised_in preferences (name ∷ names) = preference_named name preferences
 
 -- the preference statement that `#optimize` names
 abbrev pub optimised : Program → Option Preference
-optimised p = optimised_in (preferences_of p) (optimized_of p)
+optimised p = optimised_in (preferences_of p) (optimised_of p)
 
 abbrev pub prefers_by : Option Preference → AtomSet → AtomSet → Bool
 prefers_by None x y = false

@@ -3,7 +3,7 @@ ghost use Rattle.std.specs.Prelude.{◌≡◌, ℕ, Bool, List, map, IfOk, slice
 ghost use Rattle.std.specs.List.{list_any};
 ghost use Rattle.std.specs.Option.{option_copied};
 ghost use Rattle.ap_eval.specs.AtomSets.{has};
-ghost use Rattle.ap_parse.specs.Language.{optimized_of, preferences_of};
+ghost use Rattle.ap_parse.specs.Language.{optimised_of, preferences_of};
 ghost use Rattle.small_optima.specs.Kept.{Kept};
 ghost use Rattle.small_optima.specs.Marks.{marks_better, marks_part};
 ghost use Rattle.small_optima.specs.Preferred.{optimised, preference_named, satisfies};
@@ -15,7 +15,7 @@ use std::alloc::{AllocError, Global};
 
 /// The name in the first `#optimize`.
 fn optimize_name(p: &Program) -> Option<&Text>
-    ensures { option_copied result ≡ slice_get (optimized_of p.now) 0 }
+    ensures { option_copied result ≡ slice_get (optimised_of p.now) 0 }
 {
     for statement in p.statements.as_slice() {
         if let Statement::Optimize(name) = statement {

@@ -1,0 +1,10 @@
+pub mod Counts
+pub mod Inputs
+pub mod Fakes
+pub mod MemSource
+pub mod MemSink
+pub mod FileSource
+pub mod Codes
+pub mod Fronts
+pub mod Readings
+pub mod ReadFaults

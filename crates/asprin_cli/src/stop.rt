@@ -1,0 +1,13 @@
+// Why a run ends before its listing.
+use crate::Refusal;
+
+/// Why there is nothing to list.
+#[derive(Clone, Copy, Debug, PartialEq, Eq)]
+pub enum Stop {
+    /// The source failed in or after this many opens.
+    Source(u64),
+    /// The words or the input are refused.
+    Refused(Refusal),
+    /// Memory ran out.
+    Memory,
+}
