@@ -81,7 +81,11 @@ fn readings(rt: HostRuntime) -> Result<(), Fail> {
         let mut src = source(alloc, fail)?;
         src.piece(piece);
         let got = reading(alloc, names, &mut src)?;
-        assert_eq!(rt; got.as_str(), want, "{names}, failing at {fail}, in pieces of {piece}");
+        assert_eq!(rt;
+            got.as_str(),
+            want,
+            "{names}, failing at {fail}, in pieces of {piece}"
+        );
     }
     Ok(())
 }
@@ -117,9 +121,15 @@ fn limit(rt: HostRuntime) -> Result<(), Fail> {
     let all = read_all(alloc, &words(alloc, "half half")?, &mut src).ok();
     assert_eq!(rt; all.map(|files| files.len()), Some(2));
     let more = words(alloc, "half half one absent")?;
-    assert_eq!(rt; read_all(alloc, &more, &mut src).err(), Some(ReadFault::Bytes));
+    assert_eq!(rt;
+        read_all(alloc, &more, &mut src).err(),
+        Some(ReadFault::Bytes)
+    );
     let absent = words(alloc, "half absent half one")?;
-    assert_eq!(rt; read_all(alloc, &absent, &mut src).err(), Some(ReadFault::Source(2)));
+    assert_eq!(rt;
+        read_all(alloc, &absent, &mut src).err(),
+        Some(ReadFault::Source(2))
+    );
     Ok(())
 }
 
@@ -145,7 +155,11 @@ fn writings(rt: HostRuntime) -> Result<(), Fail> {
         let mut out = MemSink::new(alloc, room, Vec::from_slice(alloc, &[fail])?)?;
         out.piece(piece);
         let answer = put(&mut out, "any", text.as_bytes());
-        assert_eq!(rt; answer.is_ok(), well, "{text}, {room} bytes of room, failing at {fail}");
+        assert_eq!(rt;
+            answer.is_ok(),
+            well,
+            "{text}, {room} bytes of room, failing at {fail}"
+        );
         assert_eq!(rt; out.bytes(), want.as_bytes());
     }
     Ok(())
@@ -175,7 +189,11 @@ fn writers(rt: HostRuntime) -> Result<(), Fail> {
     assert_eq!(rt; bytes.as_slice(), b"text".as_slice());
     let mut full = OutSink::new(Cursor::new([0u8; 4]));
     assert_eq!(rt; full.write(b"text and more"), Ok(4));
-    assert_eq!(rt; full.write(b" and more"), Err(Failed), "nothing more is taken");
+    assert_eq!(rt;
+        full.write(b" and more"),
+        Err(Failed),
+        "nothing more is taken"
+    );
     Ok(())
 }
 
