@@ -1,0 +1,14 @@
+//! Ground terms by number: one id for each value, their order, their arithmetic and their text.
+#![tactic(auto)]
+
+mod args;
+mod arithmetic;
+mod fault;
+mod shape;
+mod text;
+
+pub use args::Args;
+pub use arithmetic::{ArithOp, arith};
+pub use fault::TermFault;
+pub use shape::{Shape, TermId};
+pub use text::Text;
