@@ -1,1 +1,3 @@
 pub mod ArithmeticLemmas
+pub mod TableLemmas
+pub mod OrderLemmas

@@ -4,7 +4,7 @@ use Rattle.std.specs.declared.cmp.Ordering.{Ordering}
 use Rattle.std.specs.declared.cmp.Ordering.TheVariants.{Less, Equal, Greater}
 use Rattle.std.specs.Ordering.{ordering_then, nat_cmp, int_cmp}
 use Rattle.std.specs.Cmp.Lexicographic.{slice_cmp}
-use Rattle.ap_term.specs.Value.{Value, integer, constant, string, compound, Values, none, more, arity}
+use Rattle.ap_term.specs.Value.{Value, integer, constant, string, compound, Values, none, also, arity}
 
 -- names and strings byte by byte, a proper prefix first
 abbrev pub bytes_cmp : List ℕ → List ℕ → Ordering
@@ -33,6 +33,6 @@ abbrev mutual
 
   pub values_cmp : Values → Values → Ordering
   values_cmp none none = Equal
-  values_cmp none (more w ws) = Less
-  values_cmp (more v vs) none = Greater
-  values_cmp (more v vs) (more w ws) = ordering_then (value_cmp v w) (values_cmp vs ws)
+  values_cmp none (also w ws) = Less
+  values_cmp (also v vs) none = Greater
+  values_cmp (also v vs) (also w ws) = ordering_then (value_cmp v w) (values_cmp vs ws)

@@ -3,7 +3,7 @@ use Rattle.std.specs.Prelude.{ℕ, nat_eq, ◌==◌, ◌&&◌, Bool, true, false
 use Rattle.std.specs.List.{flat_map}
 use Rattle.std.specs.Fmt.{signed_decimal}
 use Rattle.std.specs.Prelude.{codes}
-use Rattle.ap_term.specs.Value.{Value, integer, constant, string, compound, Values, none, more, arity}
+use Rattle.ap_term.specs.Value.{Value, integer, constant, string, compound, Values, none, also, arity}
 
 -- a byte of a string as it is printed: a backslash, a quote and a line feed (10) each take a backslash before them
 abbrev pub escaped : ℕ → List ℕ
@@ -24,9 +24,9 @@ abbrev mutual
 
   pub list_text : Values → List ℕ
   list_text none = []
-  list_text (more v vs) = text v ++ text_after vs
+  list_text (also v vs) = text v ++ text_after vs
 
   -- the further arguments, each after a comma
   pub text_after : Values → List ℕ
   text_after none = []
-  text_after (more v vs) = codes "," ++ text v ++ text_after vs
+  text_after (also v vs) = codes "," ++ text v ++ text_after vs

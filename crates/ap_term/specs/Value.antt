@@ -16,20 +16,20 @@ mutual
   -- the arguments of a compound term, from first to last
   pub data Values : Type 0 where
     none : Values
-    more : (first : Value) (rest : Values) → Values
+    also : (first : Value) (rest : Values) → Values
 
 abbrev pub arity : Values → ℕ
 arity none = 0
-arity (more v vs) = arity vs + 1
+arity (also v vs) = arity vs + 1
 
 -- the same arguments as a list, and back
 abbrev pub arguments_from : List Value → Values
 arguments_from [] = none
-arguments_from (v ∷ vs) = more v (arguments_from vs)
+arguments_from (v ∷ vs) = also v (arguments_from vs)
 
 abbrev pub list_from : Values → List Value
 list_from none = []
-list_from (more v vs) = v ∷ list_from vs
+list_from (also v vs) = v ∷ list_from vs
 
 -- the integers that there are: -2147483647 to 2147483647
 abbrev pub IsInteger : ℤ → Type 0
@@ -45,7 +45,7 @@ abbrev mutual
 
   pub deepest : Values → ℕ
   deepest none = 0
-  deepest (more v vs) = max (depth v) (deepest vs)
+  deepest (also v vs) = max (depth v) (deepest vs)
 
 -- a value is stored as a tree: its kind, and what it holds
 abbrev mutual
@@ -57,7 +57,7 @@ abbrev mutual
 
   pub codes_of : Values → Gv
   codes_of none = gnil
-  codes_of (more v vs) = gcons (code_of v) (codes_of vs)
+  codes_of (also v vs) = gcons (code_of v) (codes_of vs)
 
 mutual
   pub same_value : (v w : Value) → code_of v ≡ code_of w → v ≡ w
@@ -80,9 +80,9 @@ mutual
 
   pub same_values : (vs ws : Values) → codes_of vs ≡ codes_of ws → vs ≡ ws
   same_values none none e = refl
-  same_values none (more w ws) e = cc
-  same_values (more v vs) none e = cc
-  same_values (more v vs) (more w ws) e = ap₂ more (same_value v w cc) (same_values vs ws cc)
+  same_values none (also w ws) e = cc
+  same_values (also v vs) none e = cc
+  same_values (also v vs) (also w ws) e = ap₂ also (same_value v w cc) (same_values vs ws cc)
 
 abbrev pub value_code : Coded Value
 value_code = record { code = code_of; inj = same_value }

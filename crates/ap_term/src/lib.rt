@@ -5,10 +5,12 @@ mod args;
 mod arithmetic;
 mod fault;
 mod shape;
+mod terms;
 mod text;
 
 pub use args::Args;
 pub use arithmetic::{ArithOp, arith};
 pub use fault::TermFault;
 pub use shape::{Shape, TermId};
+pub use terms::Terms;
 pub use text::Text;

@@ -1,0 +1,120 @@
+//! The table of terms.
+ghost use Rattle.std.specs.Prelude.{◌≡◌, ◌<◌, ◌≤◌, ◌↔◌, [], length, take, map, All, OnOk, OnErr, IfOk, IsErrOf};
+ghost use Rattle.ap_term.specs.Value.{depth, deepest, arguments_from};
+ghost use Rattle.ap_term.specs.Table.{IsIdOf, IsShapeOver, value_at, value_of, insert_value, KeepsIds, HasDistinctValues};
+
+use crate::fault::TermFault;
+use crate::shape::{Shape, TermId};
+use indexmap::IndexMap;
+use std::alloc::Global;
+use std::marker::Model;
+
+// No value is deeper.
+const MAX_DEPTH: u8 = 128;
+
+/// A table of ground terms. It holds each value once, and the value's number is its place.
+///
+/// Contracts see the list of the values, in the order in which they came. Values are distinct, no deeper than 128 levels, and
+/// stand behind their arguments.
+#[derive(Drop)]
+pub struct Terms {
+    // Each value by its outermost level, with its depth. The arguments stand before it.
+    nodes: IndexMap<Shape, u8>,
+}
+
+impl Model for Terms {
+    ghost use Rattle.std.specs.Prelude.{List, []};
+    ghost use Rattle.std.specs.Coded.{coded_list};
+    ghost use Rattle.ap_term.specs.Value.{Value as Term, value_code};
+    ghost use Rattle.ap_term.specs.Table.{values_from, IsBuilt};
+
+    ghost Value = { List Term };
+
+    ghost coded = { coded_list value_code };
+
+    ghost view = { λ t. values_from [] t.nodes.entries };
+
+    ghost invariant = { λ t. IsBuilt [] t.nodes.entries };
+}
+
+impl Terms {
+    /// An empty table.
+    pub fn new(alloc: Global) -> Terms
+        ensures { result ≡ [] }
+    {
+        Terms {
+            nodes: IndexMap::new(alloc),
+        }
+    }
+
+    /// The depth of a value: 1 without arguments, and else one more than its deepest argument's.
+    pub fn depth(&self, id: TermId) -> u8
+        requires { IsIdOf self.now id }
+        ensures exact { result ≡ depth (value_at self.now id) }
+        ensures bound { result ≤ 128 }
+    {
+        self.nodes[id.0 as usize]
+    }
+
+    /// The outermost level of a value.
+    pub fn shape(&self, id: TermId) -> &Shape
+        requires { IsIdOf self.now id }
+        ensures value { value_of self.now result.now ≡ value_at self.now id }
+        ensures over { IsShapeOver (take id.0 self.now) result.now }
+    {
+        self.nodes.get_index(id.0 as usize).unwrap().0
+    }
+
+    /// The number of the value with this outermost level, which is put into the table where it is missing.
+    ///
+    /// `TooDeep` where the value is deeper than 128 levels; `Memory` only where there is no memory for a value that is missing.
+    /// Both leave the table as it was.
+    pub fn intern(&mut self, shape: Shape) -> Result<TermId, TermFault>
+        requires { IsShapeOver self.old shape }
+        ensures id { IfOk result (λ id. IsIdOf self.new id) }
+        ensures value { IfOk result (λ id. value_at self.new id ≡ value_of self.old shape) }
+        ensures table { OnOk result (self.new ≡ insert_value self.old (value_of self.old shape)) }
+
+        // A refusal.
+        ensures too_deep { IsErrOf result TermFault.TooDeep ↔ (128 < depth (value_of self.old shape)) }
+        ensures err { OnErr result (self.new ≡ self.old) }
+
+        // What stands in either case.
+        ensures kept { KeepsIds self.old self.new }
+        ensures distinct { HasDistinctValues self.new }
+    {
+        let depth = self.depth_of(&shape);
+        if depth > MAX_DEPTH {
+            return Err(TermFault::TooDeep);
+        }
+        let (place, _) = self
+            .nodes
+            .insert_full(shape, depth)
+            .map_err(|_| TermFault::Memory)?;
+        Ok(TermId(place as u64))
+    }
+
+    // The depth of the value of a shape.
+    fn depth_of(&self, shape: &Shape) -> u8
+        requires { IsShapeOver self.now shape.now }
+        ensures { result ≡ depth (value_of self.now shape.now) }
+    {
+        match shape {
+            Shape::Fun(_, ids) => self.deepest(ids.as_slice()) + 1,
+            _ => 1,
+        }
+    }
+
+    // The depth of the deepest of these values, or 0 where there is none.
+    fn deepest(&self, ids: &[TermId]) -> u8
+        requires { All (IsIdOf self.now) ids.now }
+        ensures exact { result ≡ deepest (arguments_from (map (value_at self.now) ids.now)) }
+        ensures bound { result ≤ 128 }
+    {
+        let mut most = 0;
+        for id in ids {
+            most = self.depth(*id).max(most);
+        }
+        most
+    }
+}
