@@ -1,8 +1,9 @@
 -- What the entries of a table say of its values.
-use Rattle.std.proofs.Common.{◌≡◌, ℕ, suc, zero, ◌+◌, ◌<◌, ◌≤◌, List, [], ◌∷◌, ◌++◌, length, get_or, take, map, pos, All, Contains, refl, sym, ap, ap₂, subst, ◌∙◌, arith, append_assoc, zero-add, ⊎_elim}
-use Rattle.std.proofs.lemmas.List.{append-nil, get_or_append_left, get_or_at, take_at, take-append-le, length_push, get_or-take, length-take-le, get_or_default}
+use Rattle.std.proofs.Common.{◌≡◌, ℕ, suc, zero, ◌+◌, ◌<◌, ◌≤◌, List, [], ◌∷◌, ◌++◌, length, get_or, take, drop, map, slice_get, option_map, Some, pos, All, Contains, refl, sym, ap, ap₂, subst, ◌∙◌, arith, append_assoc, zero-add, ⊎_elim}
+use Rattle.std.proofs.lemmas.List.{append-nil, get_or_append_left, get_or_at, take_at, take-append-le, length_push, get_or-take, length-take-le, take-append-drop}
 use Rattle.std.proofs.lemmas.List.Elements.{All-head, All-tail, Contains-get_or}
 use Rattle.std.proofs.lemmas.Bool.{cases_order}
+use Rattle.std.proofs.lemmas.Option.{slice_get_within, slice_get-map, slice_get-get_or, get_or_from_slice_get}
 use Rattle.ap_term.specs.declared.shape.Shape.{Shape}
 use Rattle.ap_term.specs.declared.shape.Shape.TheVariants.{Int, Sym, Str, Fun}
 use Rattle.ap_term.specs.declared.shape.TermId.{TermId}
@@ -83,3 +84,31 @@ distinct es h a b in_a in_b same = ⊎_elim (λ e i. record { 0 = e i }) (⊎_el
         let first : Entry = (Int (pos 0), 0) in
         let at : IsAt (values_from [] es) y.0 (get_or es y.0 first) = subst (λ n. IsAt (values_from [] es) n (get_or es y.0 first)) (zero-add y.0) (entry_at [] es y.0 first h (omega (arith, length-values_from [] es))) in
         new_here (values_from [] es) y.0 (get_or es y.0 first) at x.0 l in_y e
+
+-- ---- a table and its entries
+module _ (es : List Entry) (table : List Value) (is : values_from [] es ≡ table) (built : IsBuilt [] es) where
+  pub length_is : length table ≡ length es
+  length_is = omega (arith, ap length is, length-values_from [] es)
+
+  pub at_place : (k : ℕ) (e : Entry) → slice_get es k ≡ Some e → IsAt table k e
+  at_place k e got =
+      let in_es : k < length es = slice_get_within es k e got in
+      let at : IsAt (values_from [] es) k (get_or es k e) = subst (λ n. IsAt (values_from [] es) n (get_or es k e)) (zero-add k) (entry_at [] es k e built in_es) in
+      subst (λ t. IsAt t k e) is (subst (IsAt (values_from [] es) k) (get_or_from_slice_get es k e e got) at)
+
+  -- the depth that is kept beside a value is its own
+  pub depth_at : (id : TermId) (v : ℕ) → IsIdOf table id → slice_get (map (λ e. e.1) es) id.0 ≡ Some v → (v ≡ depth (value_at table id)) × (v ≤ 128)
+  depth_at id v in_table got =
+      let first : Entry = (Int (pos 0), 0) in
+      let there : slice_get es id.0 ≡ Some (get_or es id.0 first) = slice_get-get_or es id.0 first (omega (arith, length_is)) in
+      let at : IsAt table id.0 (get_or es id.0 first) = at_place id.0 (get_or es id.0 first) there in
+      let kept : Some v ≡ Some (get_or es id.0 first).1 = sym got ∙ slice_get-map (λ e. e.1) es id.0 ∙ ap (option_map (λ e. e.1)) there in
+      let v_is : v ≡ (get_or es id.0 first).1 = cc in
+      (v_is ∙ at.next.depth_is ∙ ap depth (sym at.value), subst (λ n. n ≤ 128) (sym v_is) at.next.shallow)
+
+  -- the shape that is kept for a value is its own, over the values before it
+  pub shape_at : (id : TermId) (s : Shape) (d : ℕ) → slice_get es id.0 ≡ Some (s, d) → (value_of table s ≡ value_at table id) × IsShapeOver (take id.0 table) s
+  shape_at id s d got =
+      let at : IsAt table id.0 (s, d) = at_place id.0 (s, d) got in
+      let split : take id.0 table ++ drop id.0 table ≡ table = take-append-drop id.0 table in
+      (ap (λ t. value_of t s) (sym split) ∙ value_of-append (take id.0 table) (drop id.0 table) s at.next.over ∙ sym at.value, at.next.over)

@@ -87,10 +87,9 @@ impl Terms {
         if depth > MAX_DEPTH {
             return Err(TermFault::TooDeep);
         }
-        let (place, _) = self
-            .nodes
-            .insert_full(shape, depth)
-            .map_err(|_| TermFault::Memory)?;
+        let Ok((place, _)) = self.nodes.insert_full(shape, depth) else {
+            return Err(TermFault::Memory);
+        };
         Ok(TermId(place as u64))
     }
 
