@@ -3,3 +3,5 @@ pub mod TableLemmas
 pub mod OrderLemmas
 pub mod InternLemmas
 pub mod ShapeLemmas
+pub mod PrintExamples
+pub mod CompareLemmas

@@ -1,12 +1,15 @@
 //! The table of terms.
-ghost use Rattle.std.specs.Prelude.{◌≡◌, ◌<◌, ◌≤◌, ◌↔◌, [], length, take, map, All, OnOk, OnErr, IfOk, IsErrOf};
+ghost use Rattle.std.specs.Prelude.{◌≡◌, ◌<◌, ◌≤◌, ◌↔◌, [], length, take, map, All, OnOk, OnErr, IfOk, IsErrOf, MatchOption};
 ghost use Rattle.ap_term.specs.Value.{depth, deepest, arguments_from};
+ghost use Rattle.ap_term.specs.Order.{value_cmp};
+ghost use Rattle.ap_term.specs.Difference.{DifferFirstAt};
 ghost use Rattle.ap_term.specs.Table.{IsIdOf, IsShapeOver, value_at, value_of, insert_value, KeepsIds, HasDistinctValues};
 
 use crate::fault::TermFault;
 use crate::shape::{Shape, TermId};
 use indexmap::IndexMap;
 use std::alloc::Global;
+use std::cmp::Ordering;
 use std::marker::Model;
 
 // No value is deeper.
@@ -61,6 +64,7 @@ impl Terms {
         requires { IsIdOf self.now id }
         ensures value { value_of self.now result.now ≡ value_at self.now id }
         ensures over { IsShapeOver (take id.0 self.now) result.now }
+        ensures distinct { HasDistinctValues self.now }
     {
         self.nodes.get_index(id.0 as usize).unwrap().0
     }
@@ -93,6 +97,27 @@ impl Terms {
         Ok(TermId(place as u64))
     }
 
+    /// The order of two values: integers by number, then constants by name, then strings, then compound terms and tuples by the number
+    /// of their arguments, by name and by their arguments from first to last. Names and strings go by their bytes. It takes no memory.
+    pub fn compare(&self, a: TermId, b: TermId) -> Ordering
+        requires a { IsIdOf self.now a }
+        requires b { IsIdOf self.now b }
+        ensures order { result ≡ value_cmp (value_at self.now a) (value_at self.now b) }
+        ensures equal { (result ≡ Ordering.Equal) ↔ (a ≡ b) }
+    {
+        if a == b {
+            return Ordering::Equal;
+        }
+        let (s, t) = (self.shape(a), self.shape(b));
+        match s.compare_outline(t) {
+            Ordering::Equal => match first_difference(s.arguments(), t.arguments()) {
+                Some((x, y)) => self.compare(x, y),
+                None => Ordering::Equal,
+            },
+            unequal => unequal,
+        }
+    }
+
     // The depth of the value of a shape.
     fn depth_of(&self, shape: &Shape) -> u8
         requires { IsShapeOver self.now shape.now }
@@ -116,4 +141,17 @@ impl Terms {
         }
         most
     }
+}
+
+// The first place at which two lists of the same length differ.
+fn first_difference(xs: &[TermId], ys: &[TermId]) -> Option<(TermId, TermId)>
+    requires { length xs.now ≡ length ys.now }
+    ensures { MatchOption result (xs.now ≡ ys.now) (λ p. DifferFirstAt xs.now ys.now p.0 p.1) }
+{
+    for (x, y) in xs.iter().zip(ys) {
+        if x != y {
+            return Some((*x, *y));
+        }
+    }
+    None
 }
