@@ -35,7 +35,7 @@ arity_of (v ∷ vs) = ap (λ n. n + 1) (arity_of vs) ∙ add-one (length vs)
 abbrev pub arguments_at : List Value → List TermId → Values
 arguments_at table ids = arguments_from (map (value_at table) ids)
 
-arity_at : (table : List Value) (ids : List TermId) → arity (arguments_at table ids) ≡ length ids
+pub arity_at : (table : List Value) (ids : List TermId) → arity (arguments_at table ids) ≡ length ids
 arity_at table ids = arity_of (map (value_at table) ids) ∙ length-map ids (value_at table)
 
 -- the outline decides first, and then the arguments

@@ -5,3 +5,4 @@ pub mod InternLemmas
 pub mod ShapeLemmas
 pub mod PrintExamples
 pub mod CompareLemmas
+pub mod PrintLemmas

@@ -1,5 +1,5 @@
 -- The text of a value, as bytes.
-use Rattle.std.specs.Prelude.{ℕ, ◌==◌, ◌&&◌, List, [], ◌∷◌, ◌++◌, length, if◌then◌else◌, codes}
+use Rattle.std.specs.Prelude.{◌≡◌, ℕ, ◌==◌, ◌&&◌, List, [], ◌∷◌, ◌++◌, length, if◌then◌else◌, codes}
 use Rattle.std.specs.List.{flat_map, join_with_byte}
 use Rattle.std.specs.Fmt.{signed_decimal}
 use Rattle.ap_term.specs.Value.{Value, integer, constant, string, compound, Values, none, also, arity}
@@ -41,3 +41,8 @@ abbrev mutual
   pub texts : Values → List (List ℕ)
   texts none = []
   texts (also v vs) = text v ∷ texts vs
+
+-- something may have been written after the old text, which stays
+pub record Extends (old new : List ℕ) : Type 0 where
+  pub rest : List ℕ
+  pub is : new ≡ old ++ rest

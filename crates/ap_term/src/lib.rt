@@ -4,13 +4,16 @@
 mod args;
 mod arithmetic;
 mod fault;
+mod order;
 mod shape;
 mod terms;
 mod text;
+mod written;
 
 pub use args::Args;
 pub use arithmetic::{ArithOp, arith};
 pub use fault::TermFault;
+pub use order::order_is_total;
 pub use shape::{Shape, TermId};
 pub use terms::Terms;
 pub use text::Text;

@@ -1,14 +1,17 @@
 //! The table of terms.
-ghost use Rattle.std.specs.Prelude.{◌≡◌, ◌<◌, ◌≤◌, ◌↔◌, [], length, take, map, All, OnOk, OnErr, IfOk, IsErrOf, MatchOption};
+ghost use Rattle.std.specs.Prelude.{◌≡◌, ◌<◌, ◌≤◌, ◌↔◌, [], ◌++◌, ◌==◌, ◌&&◌, length, take, map, All, string_bytes, OnOk, OnErr, IfOk, IsErrOf, MatchOption};
 ghost use Rattle.ap_term.specs.Value.{depth, deepest, arguments_from};
 ghost use Rattle.ap_term.specs.Order.{value_cmp};
 ghost use Rattle.ap_term.specs.Difference.{DifferFirstAt};
+ghost use Rattle.ap_term.specs.Printed.{Extends, text};
 ghost use Rattle.ap_term.specs.Table.{IsIdOf, IsShapeOver, value_at, value_of, insert_value, KeepsIds, HasDistinctValues};
 
 use crate::fault::TermFault;
 use crate::shape::{Shape, TermId};
+use crate::written::{push_comma_if, push_quoted};
 use indexmap::IndexMap;
-use std::alloc::Global;
+use itoa::Buffer;
+use std::alloc::{AllocError, Global};
 use std::cmp::Ordering;
 use std::marker::Model;
 
@@ -118,6 +121,43 @@ impl Terms {
         }
     }
 
+    /// Appends the text of a value. Without memory for all of it, nothing is appended.
+    pub fn print(&self, id: TermId, out: &mut String) -> Result<(), AllocError>
+        requires { IsIdOf self.now id }
+        ensures ok { OnOk result (string_bytes out.new ≡ string_bytes out.old ++ text (value_at self.now id)) }
+        ensures err { OnErr result (string_bytes out.new ≡ string_bytes out.old) }
+    {
+        let start = out.len();
+        let printed = self.append(id, out);
+        if printed.is_err() {
+            out.truncate(start);
+        }
+        printed
+    }
+
+    // Appends the text of a value, or on an `Err` some front of it.
+    fn append(&self, id: TermId, out: &mut String) -> Result<(), AllocError>
+        requires { IsIdOf self.now id }
+        ensures ok { OnOk result (string_bytes out.new ≡ string_bytes out.old ++ text (value_at self.now id)) }
+        ensures extends { Extends (string_bytes out.old) (string_bytes out.new) }
+    {
+        match self.shape(id) {
+            Shape::Int(number) => out.push_str(Buffer::new().format(*number)),
+            Shape::Sym(name) => out.push_str(name.as_str()),
+            Shape::Str(string) => push_quoted(string.as_str(), out),
+            Shape::Fun(name, ids) => {
+                out.push_str(name.as_str())?;
+                out.push('(')?;
+                for (place, argument) in ids.as_slice().iter().enumerate() {
+                    push_comma_if(place > 0, out)?;
+                    self.append(*argument, out)?;
+                }
+                push_comma_if(is_tuple_of_one(name.as_str(), ids.as_slice()), out)?;
+                out.push(')')
+            }
+        }
+    }
+
     // The depth of the value of a shape.
     fn depth_of(&self, shape: &Shape) -> u8
         requires { IsShapeOver self.now shape.now }
@@ -141,6 +181,13 @@ impl Terms {
         }
         most
     }
+}
+
+// Whether a name and arguments are those of a tuple of one member.
+fn is_tuple_of_one(name: &str, ids: &[TermId]) -> bool
+    ensures { result ≡ (length name.now == 0 && length ids.now == 1) }
+{
+    name.is_empty() && ids.len() == 1
 }
 
 // The first place at which two lists of the same length differ.
