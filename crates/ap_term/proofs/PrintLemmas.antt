@@ -80,11 +80,11 @@ module _ (table : List Value) (ids : List TermId) where
   -- the text of the next argument
   join_more : (k : ℕ) (d : TermId) → k < length ids
       → join_with_byte comma (map (λ i. text (value_at table i)) (take (k + 1) ids))
-        ≡ join_with_byte comma (map (λ i. text (value_at table i)) (take k ids)) ++ (if nat_lt 0 k then comma ∷ [] else []) ++ text (value_at table (get_or ids k d))
+      ≡ join_with_byte comma (map (λ i. text (value_at table i)) (take k ids)) ++ (if nat_lt 0 k then comma ∷ [] else []) ++ text (value_at table (get_or ids k d))
   join_more k d l =
       let f : TermId → List ℕ = λ i. text (value_at table i) in
       let split : map f (take (k + 1) ids) ≡ map f (take k ids) ++ f (get_or ids k d) ∷ [] =
-          ap (map f) (take_more ids k d l) ∙ map-append f (take k ids) (get_or ids k d ∷ []) in
+      ap (map f) (take_more ids k d l) ∙ map-append f (take k ids) (get_or ids k d ∷ []) in
       let count : length (map f (take k ids)) ≡ k = length-map (take k ids) f ∙ length-take-le k ids (omega arith) in
       ap (join_with_byte comma) split ∙ join_after comma (map f (take k ids)) (f (get_or ids k d))
       ∙ ap (λ n. join_with_byte comma (map f (take k ids)) ++ (if nat_lt 0 n then comma ∷ [] else []) ++ f (get_or ids k d)) count
@@ -114,10 +114,10 @@ written_compound table v name ids k flag start listed marked now v_is all e flag
 written_compound table v name ids k flag start listed marked now v_is all e flag_is f (Ok x) g =
     let vs = arguments_from (map (value_at table) ids) in
     let arguments : join_with_byte comma (map (λ i. text (value_at table i)) (take k ids)) ≡ join_with_byte comma (texts vs) =
-        ap (λ is. join_with_byte comma (map (λ i. text (value_at table i)) is)) (take_all k ids all) ∙ ap (join_with_byte comma) (sym (texts_from table ids)) in
+    ap (λ is. join_with_byte comma (map (λ i. text (value_at table i)) is)) (take_all k ids all) ∙ ap (join_with_byte comma) (sym (texts_from table ids)) in
     let mark : (if flag then comma ∷ [] else []) ≡ mark_of_one name vs =
-        ap (λ b. if b then comma ∷ [] else []) (flag_is ∙ ap (λ n. length name == 0 && n == 1) (sym (arity_at table ids))) in
+    ap (λ b. if b then comma ∷ [] else []) (flag_is ∙ ap (λ n. length name == 0 && n == 1) (sym (arity_at table ids))) in
     let all_of : now ≡ start ++ name ++ codes "(" ++ join_with_byte comma (texts vs) ++ mark_of_one name vs ++ codes ")" =
-        g ∙ ap (λ ds. ds ++ codes ")") (f ∙ ap₂ ◌++◌ (e ∙ ap (λ ds. start ++ name ++ codes "(" ++ ds) arguments) mark) in
+    g ∙ ap (λ ds. ds ++ codes ")") (f ∙ ap₂ ◌++◌ (e ∙ ap (λ ds. start ++ name ++ codes "(" ++ ds) arguments) mark) in
     let regrouped : start ++ name ++ codes "(" ++ join_with_byte comma (texts vs) ++ mark_of_one name vs ++ codes ")" ≡ start ++ text (compound name vs) = simp append_assoc in
     all_of ∙ regrouped ∙ ap (λ w. start ++ text w) v_is

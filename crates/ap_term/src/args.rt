@@ -1,5 +1,5 @@
 //! The arguments of a term.
-ghost use Rattle.std.specs.Prelude.{◌≡◌, length};
+ghost use Rattle.std.specs.Prelude.{◌≡◌, ◌↔◌, [], length, IsTrue};
 
 use crate::shape::TermId;
 use std::hash::{Hash, Hasher};
@@ -52,6 +52,13 @@ impl Args {
         ensures { result ≡ length self.now }
     {
         self.ids.len()
+    }
+
+    /// Whether there are none.
+    pub fn is_empty(&self) -> bool
+        ensures { IsTrue result ↔ (self.now ≡ []) }
+    {
+        self.ids.is_empty()
     }
 }
 

@@ -7,6 +7,8 @@ mod fault;
 mod order;
 mod shape;
 mod terms;
+#[cfg(test)]
+mod tests;
 mod text;
 mod written;
 

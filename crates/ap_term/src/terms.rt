@@ -1,5 +1,5 @@
 //! The table of terms.
-ghost use Rattle.std.specs.Prelude.{◌≡◌, ◌<◌, ◌≤◌, ◌↔◌, [], ◌++◌, ◌==◌, ◌&&◌, length, take, map, All, string_bytes, OnOk, OnErr, IfOk, IsErrOf, MatchOption};
+ghost use Rattle.std.specs.Prelude.{◌≡◌, ◌<◌, ◌≤◌, ◌↔◌, [], ◌++◌, ◌==◌, ◌&&◌, length, take, map, All, string_bytes, OnOk, OnErr, IfOk, IsErrOf, IsTrue, MatchOption};
 ghost use Rattle.ap_term.specs.Value.{depth, deepest, arguments_from};
 ghost use Rattle.ap_term.specs.Order.{value_cmp};
 ghost use Rattle.ap_term.specs.Difference.{DifferFirstAt};
@@ -51,6 +51,20 @@ impl Terms {
         Terms {
             nodes: IndexMap::new(alloc),
         }
+    }
+
+    /// How many values the table holds. They have the numbers below this one.
+    pub fn len(&self) -> u64
+        ensures { result ≡ length self.now }
+    {
+        self.nodes.len() as u64
+    }
+
+    /// Whether the table holds no value.
+    pub fn is_empty(&self) -> bool
+        ensures { IsTrue result ↔ (length self.now ≡ 0) }
+    {
+        self.len() == 0
     }
 
     /// The depth of a value: 1 without arguments, and else one more than its deepest argument's.
