@@ -1,42 +1,104 @@
-//! Arithmetic at the ends of the range, the order over a mixed list, printed texts, and depths.
+//! Arithmetic at the ends of the range, the order and the texts of a mixed list, and depths.
 ghost use Rattle.std.specs.Prelude.{IsTrue};
 ghost use Rattle.ap_term.specs.Table.{IsShapeOver};
 
 use crate::{Args, ArithOp, Shape, TermFault, TermId, Terms, Text, arith, order_is_total};
+use std::cmp::Ordering;
 use std::process::Abort;
 use std::test::Fail;
 
 const MAX: i64 = 2_147_483_647;
 
+static ARITHMETIC: [(ArithOp, i64, i64, Option<i64>); 23] = [
+    (ArithOp::Add, MAX, 0, Some(MAX)),
+    (ArithOp::Add, MAX, 1, None),
+    (ArithOp::Add, -MAX, -1, None),
+    (ArithOp::Add, i64::MAX, 1, None),
+    (ArithOp::Sub, 0, MAX, Some(-MAX)),
+    (ArithOp::Sub, -MAX, 1, None),
+    (ArithOp::Mul, 46_340, 46_340, Some(2_147_395_600)),
+    (ArithOp::Mul, 46_341, 46_341, None),
+    (ArithOp::Mul, -65_536, 32_768, None),
+    (ArithOp::Mul, MAX, -1, Some(-MAX)),
+    (ArithOp::Div, 7, 2, Some(3)),
+    (ArithOp::Div, -7, 2, Some(-3)),
+    (ArithOp::Div, 7, -2, Some(-3)),
+    (ArithOp::Div, -7, -2, Some(3)),
+    (ArithOp::Div, MAX, -1, Some(-MAX)),
+    (ArithOp::Div, 1, 0, None),
+    (ArithOp::Div, i64::MIN, -1, None),
+    (ArithOp::Rem, 7, 2, Some(1)),
+    (ArithOp::Rem, -7, 2, Some(-1)),
+    (ArithOp::Rem, 7, -2, Some(1)),
+    (ArithOp::Rem, -7, -2, Some(-1)),
+    (ArithOp::Rem, 7, 0, None),
+    (ArithOp::Rem, i64::MIN, -1, Some(0)),
+];
+
 #[test]
 fn arithmetic_at_the_ends_of_the_range(rt: HostRuntime) {
-    for (op, a, b, want) in [
-        (ArithOp::Add, MAX, 0, Some(MAX)),
-        (ArithOp::Add, MAX, 1, None),
-        (ArithOp::Add, -MAX, -1, None),
-        (ArithOp::Add, i64::MAX, 1, None),
-        (ArithOp::Sub, 0, MAX, Some(-MAX)),
-        (ArithOp::Sub, -MAX, 1, None),
-        (ArithOp::Mul, 46_340, 46_340, Some(2_147_395_600)),
-        (ArithOp::Mul, 46_341, 46_341, None),
-        (ArithOp::Mul, -65_536, 32_768, None),
-        (ArithOp::Mul, MAX, -1, Some(-MAX)),
-        (ArithOp::Div, 7, 2, Some(3)),
-        (ArithOp::Div, -7, 2, Some(-3)),
-        (ArithOp::Div, 7, -2, Some(-3)),
-        (ArithOp::Div, -7, -2, Some(3)),
-        (ArithOp::Div, MAX, -1, Some(-MAX)),
-        (ArithOp::Div, 1, 0, None),
-        (ArithOp::Div, i64::MIN, -1, None),
-        (ArithOp::Rem, 7, 2, Some(1)),
-        (ArithOp::Rem, -7, 2, Some(-1)),
-        (ArithOp::Rem, 7, -2, Some(1)),
-        (ArithOp::Rem, -7, -2, Some(-1)),
-        (ArithOp::Rem, 7, 0, None),
-        (ArithOp::Rem, i64::MIN, -1, Some(0)),
-    ] {
-        assert_eq!(rt; arith(op, a, b), want, "{op:?} of {a} and {b}");
+    for (op, a, b, want) in &ARITHMETIC {
+        assert_eq!(rt; arith(*op, *a, *b), *want, "{op:?} of {a} and {b}");
     }
+}
+
+// A value, whose arguments are places in the list in which it stands.
+enum Sample {
+    Int(i64),
+    Sym(&'static str),
+    Str(&'static str),
+    Fun(&'static str, &'static [usize]),
+}
+
+// Values in ascending order, with their texts.
+static ASCENDING: [(Sample, &str); 23] = [
+    (Sample::Int(-MAX), "-2147483647"),
+    (Sample::Int(-3), "-3"),
+    (Sample::Int(0), "0"),
+    (Sample::Int(1), "1"),
+    (Sample::Int(MAX), "2147483647"),
+    (Sample::Sym("a"), "a"),
+    (Sample::Sym("ab"), "ab"),
+    (Sample::Sym("x'"), "x'"),
+    (Sample::Str(""), "\"\""),
+    (Sample::Str("B"), "\"B\""),
+    (Sample::Str("a\\b\"c\n"), "\"a\\\\b\\\"c\\n\""),
+    (Sample::Str("y"), "\"y\""),
+    (Sample::Str("ö 木\r"), "\"ö 木\r\""),
+    (Sample::Fun("", &[]), "()"),
+    (Sample::Fun("", &[3]), "(1,)"),
+    (Sample::Fun("f", &[2]), "f(0)"),
+    (Sample::Fun("f", &[5]), "f(a)"),
+    (Sample::Fun("g", &[0]), "g(-2147483647)"),
+    (Sample::Fun("", &[2, 5]), "(0,a)"),
+    (Sample::Fun("", &[7, 11]), "(x',\"y\")"),
+    (Sample::Fun("f", &[1, 19]), "f(-3,(x',\"y\"))"),
+    (Sample::Fun("f", &[2, 1]), "f(0,-3)"),
+    (Sample::Fun("f", &[2, 2]), "f(0,0)"),
+];
+
+// The shape of a value.
+fn shape_of(rt: &impl AllocGlobal, sample: &Sample, ids: &[TermId]) -> Result<Shape, Fail> {
+    match sample {
+        Sample::Int(n) => Ok(Shape::Int(*n)),
+        Sample::Sym(name) => Ok(Shape::Sym(Text::new(rt.alloc(), name)?)),
+        Sample::Str(text) => {
+            let text = String::from_str(rt.alloc(), text)?;
+            Ok(Shape::Str(Text::from_string(text)))
+        }
+        Sample::Fun(name, places) => Ok(Shape::Fun(
+            Text::new(rt.alloc(), name)?,
+            ids_at(rt, places, ids)?,
+        )),
+    }
+}
+
+fn ids_at(rt: &impl AllocGlobal, places: &[usize], ids: &[TermId]) -> Result<Args, Fail> {
+    let mut found = Vec::new(rt.alloc());
+    for place in places {
+        found.push(*ids.get(*place).ok_or("no such place")?)?;
+    }
+    Ok(Args::from_vec(found))
 }
 
 // Whether the shape may be interned.
@@ -58,69 +120,39 @@ fn intern(rt: &impl Abort, terms: &mut Terms, shape: Shape) -> Result<TermId, Te
     terms.intern(shape)
 }
 
-fn int(rt: &impl Abort, terms: &mut Terms, n: i64) -> Result<TermId, Fail> {
-    Ok(intern(rt, terms, Shape::Int(n))?)
+fn intern_all(rt: &(impl Abort + AllocGlobal), terms: &mut Terms) -> Result<Vec<TermId>, Fail> {
+    let mut ids = Vec::new(rt.alloc());
+    for (sample, _) in &ASCENDING {
+        let shape = shape_of(rt, sample, ids.as_slice())?;
+        ids.push(intern(rt, terms, shape)?)?;
+    }
+    Ok(ids)
 }
 
-fn sym(rt: &(impl Abort + AllocGlobal), terms: &mut Terms, name: &str) -> Result<TermId, Fail> {
-    Ok(intern(rt, terms, Shape::Sym(Text::new(rt.alloc(), name)?))?)
+#[test]
+fn each_value_has_one_number(rt: HostRuntime) -> Result<(), Fail> {
+    let mut terms = Terms::new(rt.alloc());
+    assert!(rt; terms.is_empty());
+    let first = intern_all(&rt, &mut terms)?;
+    let again = intern_all(&rt, &mut terms)?;
+    assert_eq!(rt; first, again);
+    assert_eq!(rt; terms.len(), 23);
+    Ok(())
 }
 
-fn string(rt: &(impl Abort + AllocGlobal), terms: &mut Terms, text: &str) -> Result<TermId, Fail> {
-    let text = String::from_str(rt.alloc(), text)?;
-    Ok(intern(rt, terms, Shape::Str(Text::from_string(text)))?)
-}
-
-fn fun(
-    rt: &(impl Abort + AllocGlobal),
-    terms: &mut Terms,
-    name: &str,
-    ids: &[TermId],
-) -> Result<TermId, Fail> {
-    let args = Args::from_vec(Vec::from_slice(rt.alloc(), ids)?);
-    let shape = Shape::Fun(Text::new(rt.alloc(), name)?, args);
-    Ok(intern(rt, terms, shape)?)
+fn compare(rt: &impl Abort, terms: &Terms, a: TermId, b: TermId) -> Ordering {
+    assert!(rt; a.0 < terms.len());
+    assert!(rt; b.0 < terms.len());
+    terms.compare(a, b)
 }
 
 #[test]
 fn order_over_a_mixed_list(rt: HostRuntime) -> Result<(), Fail> {
     let mut terms = Terms::new(rt.alloc());
-    let t = &mut terms;
-    let f_of_a_pair = {
-        let pair = [int(&rt, t, 1)?, int(&rt, t, -1)?];
-        fun(&rt, t, "f", &pair)?
-    };
-    let g = {
-        let least = [int(&rt, t, -MAX)?];
-        fun(&rt, t, "g", &least)?
-    };
-    let zero = int(&rt, t, 0)?;
-    let a = sym(&rt, t, "a")?;
-    let ascending = vec![in rt.alloc();
-        int(&rt, t, -MAX)?,
-        int(&rt, t, -3)?,
-        zero,
-        int(&rt, t, MAX)?,
-        a,
-        sym(&rt, t, "ab")?,
-        sym(&rt, t, "b")?,
-        string(&rt, t, "")?,
-        string(&rt, t, "B")?,
-        string(&rt, t, "a")?,
-        fun(&rt, t, "", &[])?,
-        fun(&rt, t, "", &[a])?,
-        fun(&rt, t, "f", &[zero])?,
-        fun(&rt, t, "f", &[a])?,
-        g,
-        fun(&rt, t, "", &[zero, a])?,
-        fun(&rt, t, "f", &[zero, zero])?,
-        fun(&rt, t, "f", &[zero, a])?,
-        f_of_a_pair,
-    ]?;
-    for (i, a) in ascending.iter().enumerate() {
-        for (j, b) in ascending.iter().enumerate() {
-            assert!(rt; a.0 < terms.len() && b.0 < terms.len());
-            assert_eq!(rt; terms.compare(*a, *b), i.cmp(&j), "{i} and {j}");
+    let ids = intern_all(&rt, &mut terms)?;
+    for (i, a) in ids.iter().enumerate() {
+        for (j, b) in ids.iter().enumerate() {
+            assert_eq!(rt; compare(&rt, &terms, *a, *b), i.cmp(&j), "{i} and {j}");
         }
     }
     order_is_total();
@@ -137,56 +169,44 @@ fn printed(rt: &(impl Abort + AllocGlobal), terms: &Terms, id: TermId) -> Result
 #[test]
 fn printed_texts(rt: HostRuntime) -> Result<(), Fail> {
     let mut terms = Terms::new(rt.alloc());
-    let t = &mut terms;
-    let one = int(&rt, t, 1)?;
-    let minus_three = int(&rt, t, -3)?;
-    let pair = [sym(&rt, t, "x")?, string(&rt, t, "y")?];
-    let x_and_y = fun(&rt, t, "", &pair)?;
-    let cases = vec![in rt.alloc();
-        (int(&rt, t, 0)?, "> 0"),
-        (int(&rt, t, -MAX)?, "> -2147483647"),
-        (sym(&rt, t, "is_good'")?, "> is_good'"),
-        (string(&rt, t, "")?, "> \"\""),
-        (string(&rt, t, "a\\b\"c\n")?, "> \"a\\\\b\\\"c\\n\""),
-        (string(&rt, t, "größer, 木\r")?, "> \"größer, 木\r\""),
-        (fun(&rt, t, "", &[])?, "> ()"),
-        (fun(&rt, t, "", &[one])?, "> (1,)"),
-        (fun(&rt, t, "", &[one, one])?, "> (1,1)"),
-        (fun(&rt, t, "f", &[one])?, "> f(1)"),
-        (
-            fun(&rt, t, "f", &[minus_three, x_and_y])?,
-            "> f(-3,(x,\"y\"))"
-        ),
-    ]?;
-    for (id, want) in cases.iter() {
-        assert_eq!(rt; printed(&rt, &terms, *id)?.as_str(), *want);
+    let ids = intern_all(&rt, &mut terms)?;
+    for (id, (_, want)) in ids.iter().zip(&ASCENDING) {
+        let text = printed(&rt, &terms, *id)?;
+        assert_eq!(rt; text.as_str().strip_prefix("> "), Some(*want));
     }
     Ok(())
 }
 
+// `f` of these arguments.
+fn f_of(
+    rt: &(impl Abort + AllocGlobal),
+    terms: &mut Terms,
+    ids: &[TermId],
+) -> Result<TermId, Fail> {
+    let args = Args::from_vec(Vec::from_slice(rt.alloc(), ids)?);
+    let shape = Shape::Fun(Text::new(rt.alloc(), "f")?, args);
+    Ok(intern(rt, terms, shape)?)
+}
+
+fn depth(rt: &impl Abort, terms: &Terms, id: TermId) -> u8 {
+    assert!(rt; id.0 < terms.len());
+    terms.depth(id)
+}
+
 #[test]
-fn one_number_for_each_value_to_a_depth_of_128(rt: HostRuntime) -> Result<(), Fail> {
+fn depth_128_and_129(rt: HostRuntime) -> Result<(), Fail> {
     let mut terms = Terms::new(rt.alloc());
-    assert!(rt; terms.is_empty());
-    let mut deepest = sym(&rt, &mut terms, "a")?;
-    for depth in 1..=128u64 {
-        assert!(rt; deepest.0 < terms.len());
-        assert_eq!(rt; u64::from(terms.depth(deepest)), depth);
-        if depth < 128 {
-            deepest = fun(&rt, &mut terms, "f", &[deepest])?;
-        }
+    let mut deepest = f_of(&rt, &mut terms, &[])?;
+    for below in 1..128u8 {
+        assert_eq!(rt; depth(&rt, &terms, deepest), below);
+        deepest = f_of(&rt, &mut terms, &[deepest])?;
     }
-    let below = TermId(126);
-    assert_eq!(rt; (deepest, terms.len()), (TermId(127), 128));
-    assert_eq!(rt; sym(&rt, &mut terms, "a")?, TermId(0));
-    assert_eq!(rt; fun(&rt, &mut terms, "f", &[below])?, deepest);
-    let args = Args::from_vec(vec![in rt.alloc(); below, deepest]?);
+    assert_eq!(rt; depth(&rt, &terms, deepest), 128);
+    assert_eq!(rt; terms.len(), 128);
+    let args = Args::from_vec(vec![in rt.alloc(); TermId(0), deepest]?);
     let too_deep = Shape::Fun(Text::new(rt.alloc(), "")?, args);
     assert_eq!(rt; intern(&rt, &mut terms, too_deep), Err(TermFault::TooDeep));
     assert_eq!(rt; terms.len(), 128);
-    assert_eq!(rt; fun(&rt, &mut terms, "g", &[below])?, TermId(128));
-    assert!(rt; deepest.0 < terms.len());
-    let shape = terms.shape(deepest);
-    assert_eq!(rt; shape.arguments(), [below].as_slice());
+    assert_eq!(rt; f_of(&rt, &mut terms, &[TermId(126)])?, deepest);
     Ok(())
 }
