@@ -1,0 +1,7 @@
+pub mod Value
+pub mod Difference
+pub mod Order
+pub mod Outline
+pub mod Arithmetic
+pub mod Printed
+pub mod Table

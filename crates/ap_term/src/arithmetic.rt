@@ -1,0 +1,40 @@
+//! Arithmetic on the integers among the values.
+ghost use Rattle.std.specs.Prelude.{◌≡◌, option_and_then};
+ghost use Rattle.ap_term.specs.Arithmetic.{compute, within};
+
+// The greatest integer that there is. The least is its negative.
+const MAX_INTEGER: i64 = 2_147_483_647;
+
+/// An operation on integers. Unary minus is `Sub` from 0.
+#[derive(Clone, Copy, Debug, PartialEq, Eq)]
+pub enum ArithOp {
+    Add,
+    Sub,
+    Mul,
+    /// The quotient, rounded toward 0.
+    Div,
+    /// What is left of the dividend after that division.
+    Rem,
+}
+
+/// What the operation gives. `None` where the divisor is 0, and where the result is not in -2147483647 to 2147483647.
+#[tactic(auto, using(crate::proofs::ArithmeticLemmas::within_exact, crate::proofs::ArithmeticLemmas::remainder))]
+pub fn arith(op: ArithOp, a: i64, b: i64) -> Option<i64>
+    ensures { result ≡ compute op a b }
+{
+    match op {
+        ArithOp::Add => in_range(a.checked_add(b)),
+        ArithOp::Sub => in_range(a.checked_sub(b)),
+        ArithOp::Mul => in_range(a.checked_mul(b)),
+        ArithOp::Div => in_range(a.checked_div(b)),
+        ArithOp::Rem if b == 0 => None,
+        ArithOp::Rem => in_range(Some(a.wrapping_rem(b))),
+    }
+}
+
+// The number, if there is one and it is in range.
+fn in_range(number: Option<i64>) -> Option<i64>
+    ensures { result ≡ option_and_then within number }
+{
+    number.filter(|n| -MAX_INTEGER <= *n && *n <= MAX_INTEGER)
+}
