@@ -1,12 +1,12 @@
 -- The kept sublists of the atoms are the answer sets.
 use Rattle.std.proofs.Common.{◌≡◌, ◌∙◌, ℕ, List, sym, subst}
-use Rattle.std.specs.Prelude.{Any, filter}
+use Rattle.std.specs.Prelude.{filter}
 use Rattle.std.specs.List.Sorted.{IsStrictlySortedBy}
 use Rattle.std.specs.Cmp.Lexicographic.{nat_list_cmp_total}
 use Rattle.std.proofs.lemmas.List.Elements.{All-from_recursion}
 use Rattle.ap_syntax.specs.declared.tree.Program.{Program}
 use Rattle.ap_eval.specs.AnswerSets.{IsAnswerSet}
-use Rattle.ap_eval.specs.AtomSets.{AtomSet, has}
+use Rattle.ap_eval.specs.AtomSets.{has}
 use Rattle.small_optima.specs.Answers.{AreAnswerSets}
 use Rattle.small_optima.specs.Atoms.{names_of}
 use Rattle.small_optima.specs.Kept.{Kept}

@@ -1,9 +1,9 @@
 -- The unbeaten ones of all answer sets are the sorted listing of the optimal ones.
-use Rattle.std.proofs.Common.{◌≡◌, ℕ, ◌<◌, ◌≤◌, Bool, true, false, not, ◌&&◌, ◌||◌, List, [], ◌∷◌, length, map, get_or, refl, sym, ap, ◌∙◌, subst, arith}
-use Rattle.std.specs.Prelude.{All, Any, Contains, IsFalse, Option, None, Some}
-use Rattle.std.specs.List.{list_all, list_any, zip}
-use Rattle.std.proofs.lemmas.Bool.{false≢true, true≢false}
-use Rattle.std.proofs.lemmas.List.Elements.{All-contains, All-from_recursion, All-get_or, Contains-get_or, recursion_from_All}
+use Rattle.std.proofs.Common.{◌≡◌, ℕ, ◌<◌, Bool, true, false, not, ◌&&◌, ◌||◌, List, [], ◌∷◌, length, map, get_or, refl, sym, ap, ◌∙◌, subst, arith}
+use Rattle.std.specs.Prelude.{Contains, IsFalse, Option, None, Some}
+use Rattle.std.specs.List.{list_all, list_any}
+use Rattle.std.proofs.lemmas.Bool.{true≢false}
+use Rattle.std.proofs.lemmas.List.Elements.{All-contains, All-from_recursion, recursion_from_All}
 use Rattle.std.proofs.lemmas.List.Folds.{Any-from_list_any}
 use Rattle.ap_syntax.specs.declared.tree.Element.{Element}
 use Rattle.ap_syntax.specs.declared.tree.Preference.{Preference}
@@ -13,7 +13,7 @@ use Rattle.ap_eval.specs.AtomSets.{AtomSet, has}
 use Rattle.small_optima.specs.Answers.{AreAnswerSets}
 use Rattle.small_optima.specs.Kept.{Kept}
 use Rattle.small_optima.specs.Marks.{marks_better, marks_part}
-use Rattle.small_optima.specs.Optimal.{IsOptimal, IsSortedListing, atom_cmp, set_cmp}
+use Rattle.small_optima.specs.Optimal.{IsSortedListing, atom_cmp, set_cmp}
 use Rattle.small_optima.specs.Preferred.{is_better, is_part, optimised, prefers, prefers_by, satisfies}
 use Rattle.small_optima.specs.Unbeaten.{IsUnbeatenIn, elements_of, marks_of}
 use Rattle.std.specs.List.Sorted.{IsStrictlySortedBy}

@@ -1,5 +1,5 @@
 -- What trying all sets of a program's atoms comes to.
-use Rattle.std.specs.Prelude.{ℕ, ◌<◌, List, length}
+use Rattle.std.specs.Prelude.{◌<◌, length}
 use Rattle.ap_eval.specs.AnswerSets.{IsAnswerSet}
 use Rattle.ap_eval.specs.AtomSets.{AtomSet}
 use Rattle.ap_syntax.specs.declared.tree.Program.{Program}

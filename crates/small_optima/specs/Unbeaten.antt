@@ -4,7 +4,7 @@ use Rattle.ap_eval.specs.AtomSets.{has}
 use Rattle.ap_syntax.specs.declared.tree.Element.{Element}
 use Rattle.ap_syntax.specs.declared.tree.Preference.{Preference}
 use Rattle.ap_syntax.specs.declared.tree.Program.{Program}
-use Rattle.small_optima.specs.Preferred.{optimised, prefers, satisfies}
+use Rattle.small_optima.specs.Preferred.{prefers, satisfies}
 
 -- no set of these is preferred to this one
 abbrev pub IsUnbeatenIn : Program → List (List (List ℕ)) → List (List ℕ) → Type 0

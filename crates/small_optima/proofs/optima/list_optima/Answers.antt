@@ -1,5 +1,5 @@
 -- Where nothing is found there is no answer set, and else the unbeaten ones are listed.
-use Rattle.std.proofs.Common.{◌≡◌, ◌≢◌, ◌∙◌, ℕ, ◌<◌, List, sym, ap, subst, arith, length, []}
+use Rattle.std.proofs.Common.{◌≡◌, ◌≢◌, ◌∙◌, ◌<◌, sym, arith, length, []}
 use Rattle.std.proofs.lemmas.Bool.{eqb-true, eqb-false}
 use Rattle.std.proofs.lemmas.List.Elements.{Contains-get_or}
 use Rattle.small_optima.proofs.Listing.{is_sorted_listing, some_optimal}

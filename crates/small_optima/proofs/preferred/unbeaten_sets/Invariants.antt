@@ -1,4 +1,3 @@
-use Rattle.std.proofs.Common.{ℕ, List}
 use Rattle.small_optima.specs.Kept.{Kept}
 use Rattle.small_optima.specs.Unbeaten.{IsUnbeatenIn}
 use Rattle.small_optima.proofs.preferred.unbeaten_sets.Given as goal

@@ -1,5 +1,5 @@
 -- The set has the name, or is full without it, or gets it.
-use Rattle.std.proofs.Common.{List, [], ◌∷◌, ℕ, arith, sym, subst, ◌∙◌}
+use Rattle.std.proofs.Common.{List, [], ◌∷◌, ℕ, sym, subst, ◌∙◌}
 use Rattle.small_optima.specs.Adds.{Adds}
 use Rattle.small_optima.proofs.Names.{has-by_cmp, Adds-known, Adds-new, ExceedsTwelve-full}
 use Rattle.small_optima.proofs.atoms.FewAtoms.add.Goals as goal

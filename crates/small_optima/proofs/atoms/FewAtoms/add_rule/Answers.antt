@@ -1,5 +1,5 @@
 -- Too many in the head, or after it in the body.
-use Rattle.std.proofs.Common.{◌∙◌, sym, ap, Err, map, subst, List, ℕ}
+use Rattle.std.proofs.Common.{◌∙◌, sym, ap, Err, map, subst}
 use Rattle.std.proofs.lemmas.Result.{err_from_is_err_and}
 use Rattle.ap_eval.specs.Reduct.{literals_of, literal_of}
 use Rattle.small_optima.specs.Adds.{ExceedsTwelve}
