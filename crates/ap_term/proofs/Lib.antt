@@ -3,6 +3,7 @@ pub mod TableLemmas
 pub mod OrderLemmas
 pub mod InternLemmas
 pub mod ShapeLemmas
-pub mod PrintExamples
+pub mod Examples
 pub mod CompareLemmas
 pub mod PrintLemmas
+pub mod CallerLemmas
