@@ -1,0 +1,2 @@
+pub mod ReductLemmas
+pub mod SetLemmas

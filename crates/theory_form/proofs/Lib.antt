@@ -1,0 +1,5 @@
+pub mod ExtendLemmas
+pub mod LookLemmas
+pub mod NumberLemmas
+pub mod OrderLemmas
+pub mod TheoryLemmas

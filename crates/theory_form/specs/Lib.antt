@@ -1,0 +1,9 @@
+pub mod Hints
+pub mod Kept
+pub mod Kinds
+pub mod Literals
+pub mod Looks
+pub mod Numbers
+pub mod Order
+pub mod Theories
+pub mod Truth
