@@ -1,0 +1,4 @@
+pub mod Steps
+pub mod KeyOrder
+pub mod Between
+pub mod Descent

@@ -1,0 +1,12 @@
+-- Relations: lists of rows of one length.
+use Rattle.std.specs.Prelude.{◌≡◌, ℕ, List, length}
+use Rattle.ap_term.specs.declared.shape.TermId.{TermId}
+
+-- a relation: how many members each row has, and its rows in the order in which they came
+pub record Table : Type 0 where
+  pub arity : ℕ
+  pub rows : List (List TermId)
+
+-- a row of this many members
+abbrev pub IsRowOf : ℕ → List TermId → Type 0
+IsRowOf arity row = length row ≡ arity

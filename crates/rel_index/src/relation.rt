@@ -1,0 +1,84 @@
+//! Relations: lists of rows.
+ghost use Rattle.std.specs.Prelude.{◌≡◌, ◌+◌, ◌^◌, ◌<◌, ◌↔◌, [], ◌∷◌, ◌++◌, length, All, OnOk, OnErr, IsTrue, slice_get, Some};
+ghost use Rattle.rel_index.specs.Rows.{IsRowOf};
+
+use ap_term::{Args, TermId};
+use std::alloc::{AllocError, Global};
+use std::marker::Model;
+
+/// A relation: rows of ground terms, each of the same number of members.
+///
+/// Contracts see that number and the list of the rows, in the order in which they were pushed. A row that was pushed twice stands
+/// there twice. The terms are numbers of one table, which the relation does not look into.
+#[derive(Drop)]
+pub struct Relation {
+    arity: u32,
+    rows: Vec<Args>,
+}
+
+impl Model for Relation {
+    ghost use Rattle.std.specs.Prelude.{◌^◌, ◌<◌, All, length};
+    ghost use Rattle.rel_index.specs.Rows.{Table, IsRowOf};
+
+    ghost Value = { Table };
+
+    ghost view = { λ r. record { arity = r.arity; rows = r.rows.items } };
+
+    ghost invariant = { λ r. All (IsRowOf r.arity) r.rows.items × (length r.rows.items < 2 ^ 32) };
+}
+
+impl Relation {
+    /// A relation without rows, whose rows will have this many members.
+    pub fn new(alloc: Global, arity: u32) -> Relation
+        ensures arity { result.arity ≡ arity }
+        ensures rows { result.rows ≡ [] }
+    {
+        Relation {
+            arity,
+            rows: Vec::new(alloc),
+        }
+    }
+
+    /// How many members each row has.
+    pub fn arity(&self) -> u32
+        ensures { result ≡ self.now.arity }
+    {
+        self.arity
+    }
+
+    /// How many rows there are, repeated ones counted again.
+    pub fn len(&self) -> u32
+        ensures { result ≡ length self.now.rows }
+    {
+        self.rows.len() as u32
+    }
+
+    /// Whether there is no row.
+    pub fn is_empty(&self) -> bool
+        ensures { IsTrue result ↔ (self.now.rows ≡ []) }
+    {
+        self.rows.is_empty()
+    }
+
+    /// The row at a place, counted from 0.
+    pub fn row(&self, place: u32) -> &[TermId]
+        requires { place < length self.now.rows }
+        ensures row { slice_get self.now.rows place ≡ Some result.now }
+        ensures size { IsRowOf self.now.arity result.now }
+    {
+        self.rows[place as usize].as_slice()
+    }
+
+    /// Puts a row behind the others. It fails only where there is no memory for it, and then changes nothing.
+    pub fn push(&mut self, alloc: Global, row: &[TermId]) -> Result<(), AllocError>
+        requires size { IsRowOf self.old.arity row.now }
+        requires room { length self.old.rows + 1 < 2 ^ 32 }
+        ensures arity { self.new.arity ≡ self.old.arity }
+        ensures ok { OnOk result (self.new.rows ≡ self.old.rows ++ row.now ∷ []) }
+        ensures err { OnErr result (self.new.rows ≡ self.old.rows) }
+    {
+        let row = Args::from_vec(Vec::from_slice(alloc, row)?);
+        self.rows.push(row)?;
+        Ok(())
+    }
+}
