@@ -1,11 +1,21 @@
 //! Syntax trees of programs.
 #![tactic(auto)]
 
+mod copies;
+mod equality;
+mod preferences;
+mod programs;
+mod rule_copies;
+mod rules;
+pub mod small;
+mod terms;
 mod text;
-mod tree;
 
+pub use preferences::{Element, Formula, Preference, Ranked, Target};
+pub use programs::{PartKind, Program, Statement};
+pub use rules::{AggElement, BodyItem, ChoiceElement, Function, Guard, HeadForm, Rule};
+pub use terms::{Atom, Literal, ProductOp, Rel, SumOp, Term};
 pub use text::Text;
-pub use tree::{
-    Atom, BodyItem, ChoiceElement, Element, Formula, HeadForm, Literal, Preference, Program, Rule,
-    Statement,
-};
+
+#[cfg(test)]
+mod tests;

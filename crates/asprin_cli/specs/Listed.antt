@@ -1,7 +1,7 @@
 -- What is printed of the optimal sets that were found.
 use Rattle.std.specs.Prelude.{◌≡◌, ℕ, ◌≤◌, List, [], length}
-use Rattle.ap_parse.specs.Language.{InLanguage}
-use Rattle.ap_syntax.specs.declared.tree.Program.{Program}
+use Rattle.small_parse.specs.Language.{InLanguage}
+use Rattle.ap_syntax.specs.declared.small.Program.{Program}
 use Rattle.small_optima.specs.Atoms.{atom_count}
 use Rattle.small_optima.specs.Optima.{AreOptima}
 use Rattle.small_optima.specs.declared.optima.Optima.{Optima}

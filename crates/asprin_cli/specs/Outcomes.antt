@@ -6,8 +6,8 @@ use Rattle.ap_base.specs.ReadFaults.{FailedAt}
 use Rattle.ap_base.specs.declared.status.Status.{Status}
 use Rattle.ap_eval.specs.AnswerSets.{IsAnswerSet}
 use Rattle.ap_eval.specs.AtomSets.{AtomSet}
-use Rattle.ap_parse.specs.Language.{InLanguage}
-use Rattle.ap_syntax.specs.declared.tree.Program.{Program}
+use Rattle.small_parse.specs.Language.{InLanguage}
+use Rattle.ap_syntax.specs.declared.small.Program.{Program}
 use Rattle.small_optima.specs.Atoms.{atom_count}
 use Rattle.asprin_cli.specs.Given as given
 use Rattle.asprin_cli.specs.Given.{Given}

@@ -11,8 +11,8 @@ ghost use Rattle.asprin_cli.specs.Words.{asks_for, files_of};
 use crate::words::read_words;
 use crate::{Refusal, Stop};
 use ap_base::{ReadFault, Source, read_all};
-use ap_parse::{SmallFault, small};
 use small_optima::{Optima, TrialFault, list_optima};
+use small_parse::{SmallFault, small};
 use std::alloc::{AllocError, Global};
 
 /// All files as one text.

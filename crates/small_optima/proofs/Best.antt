@@ -6,7 +6,7 @@ use Rattle.std.specs.List.{list_all, list_any}
 use Rattle.std.proofs.lemmas.Bool.{and_cases, and_parts, cases_Bool, false≢true, not-true, true≢false}
 use Rattle.std.proofs.lemmas.List.Elements.{All-from_recursion}
 use Rattle.std.proofs.lemmas.List.Folds.{Any-from_list_any}
-use Rattle.ap_syntax.specs.declared.tree.Element.{Element}
+use Rattle.ap_syntax.specs.declared.small.Element.{Element}
 use Rattle.ap_eval.specs.AtomSets.{AtomSet}
 use Rattle.small_optima.specs.Preferred.{is_better, is_part, satisfies}
 use Rattle.small_optima.proofs.Lists.{each-none}

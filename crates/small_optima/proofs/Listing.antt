@@ -5,9 +5,9 @@ use Rattle.std.specs.List.{list_all, list_any}
 use Rattle.std.proofs.lemmas.Bool.{true≢false}
 use Rattle.std.proofs.lemmas.List.Elements.{All-contains, All-from_recursion, recursion_from_All}
 use Rattle.std.proofs.lemmas.List.Folds.{Any-from_list_any}
-use Rattle.ap_syntax.specs.declared.tree.Element.{Element}
-use Rattle.ap_syntax.specs.declared.tree.Preference.{Preference}
-use Rattle.ap_syntax.specs.declared.tree.Program.{Program}
+use Rattle.ap_syntax.specs.declared.small.Element.{Element}
+use Rattle.ap_syntax.specs.declared.small.Preference.{Preference}
+use Rattle.ap_syntax.specs.declared.small.Program.{Program}
 use Rattle.ap_eval.specs.AnswerSets.{IsAnswerSet}
 use Rattle.ap_eval.specs.AtomSets.{AtomSet, has}
 use Rattle.small_optima.specs.Answers.{AreAnswerSets}

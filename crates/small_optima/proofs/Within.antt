@@ -6,10 +6,10 @@ use Rattle.std.specs.List.{filter_map, flat_map, list_all}
 use Rattle.std.proofs.lemmas.Bool.{and_from, and_parts, or_left, or_right}
 use Rattle.std.proofs.lemmas.List.Elements.{All-append, All-filter, All-map, All-nil, All-weaker}
 use Rattle.std.proofs.lemmas.Map.Made.{All-is_member}
-use Rattle.ap_syntax.specs.declared.tree.HeadForm.{HeadForm}
-use Rattle.ap_syntax.specs.declared.tree.HeadForm.TheVariants.{One, Choice, Nothing}
-use Rattle.ap_syntax.specs.declared.tree.Program.{Program}
-use Rattle.ap_syntax.specs.declared.tree.Rule.{Rule}
+use Rattle.ap_syntax.specs.declared.small.HeadForm.{HeadForm}
+use Rattle.ap_syntax.specs.declared.small.HeadForm.TheVariants.{One, Choice, Nothing}
+use Rattle.ap_syntax.specs.declared.small.Program.{Program}
+use Rattle.ap_syntax.specs.declared.small.Rule.{Rule}
 use Rattle.ap_eval.specs.AnswerSets.{IsAnswerSet}
 use Rattle.ap_eval.specs.AtomSets.{AtomSet, IsSubset, has}
 use Rattle.ap_eval.specs.Reduct.{Definite, element_name, heads_in, literals_of, not_refuted, positive_of, reduced, reduct, rules_of}

@@ -1,7 +1,7 @@
 -- All answer sets of a program.
 use Rattle.std.specs.Prelude.{◌≡◌, ℕ, List, All, Any}
 use Rattle.std.specs.List.Sorted.{IsStrictlySortedBy}
-use Rattle.ap_syntax.specs.declared.tree.Program.{Program}
+use Rattle.ap_syntax.specs.declared.small.Program.{Program}
 use Rattle.ap_eval.specs.AnswerSets.{IsAnswerSet}
 use Rattle.ap_eval.specs.AtomSets.{AtomSet, has}
 use Rattle.small_optima.specs.Optimal.{atom_cmp, set_cmp}

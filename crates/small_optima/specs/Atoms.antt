@@ -3,12 +3,12 @@ use Rattle.std.specs.Prelude.{ℕ, List, [], ◌∷◌, ◌++◌, map}
 use Rattle.std.specs.List.{flat_map}
 use Rattle.std.specs.Set.{distinct_count}
 use Rattle.std.specs.Str.{bytes_eq}
-use Rattle.ap_syntax.specs.declared.tree.HeadForm.{HeadForm}
-use Rattle.ap_syntax.specs.declared.tree.HeadForm.TheVariants.{One, Choice, Nothing}
-use Rattle.ap_syntax.specs.declared.tree.Literal.{Literal}
-use Rattle.ap_syntax.specs.declared.tree.Literal.TheVariants.{Pos, Not}
-use Rattle.ap_syntax.specs.declared.tree.Program.{Program}
-use Rattle.ap_syntax.specs.declared.tree.Rule.{Rule}
+use Rattle.ap_syntax.specs.declared.small.HeadForm.{HeadForm}
+use Rattle.ap_syntax.specs.declared.small.HeadForm.TheVariants.{One, Choice, Nothing}
+use Rattle.ap_syntax.specs.declared.small.Literal.{Literal}
+use Rattle.ap_syntax.specs.declared.small.Literal.TheVariants.{Pos, Not}
+use Rattle.ap_syntax.specs.declared.small.Program.{Program}
+use Rattle.ap_syntax.specs.declared.small.Rule.{Rule}
 use Rattle.ap_eval.specs.Reduct.{element_name, literals_of, rules_of}
 
 abbrev pub literal_name : Literal → List ℕ

@@ -2,7 +2,7 @@
 use Rattle.std.specs.Prelude.{◌<◌, length}
 use Rattle.ap_eval.specs.AnswerSets.{IsAnswerSet}
 use Rattle.ap_eval.specs.AtomSets.{AtomSet}
-use Rattle.ap_syntax.specs.declared.tree.Program.{Program}
+use Rattle.ap_syntax.specs.declared.small.Program.{Program}
 use Rattle.small_optima.specs.Optimal.{IsSortedListing}
 use Rattle.small_optima.specs.declared.optima.Optima.{Optima}
 use Rattle.small_optima.specs.declared.optima.Optima.TheVariants.{Unsatisfiable, Listing}

@@ -4,7 +4,7 @@ use Rattle.std.specs.List.Sorted.{IsStrictlySortedBy}
 use Rattle.std.specs.Cmp.Lexicographic.{slice_cmp}
 use Rattle.std.specs.Ordering.{nat_cmp}
 use Rattle.std.specs.declared.cmp.Ordering.{Ordering}
-use Rattle.ap_syntax.specs.declared.tree.Program.{Program}
+use Rattle.ap_syntax.specs.declared.small.Program.{Program}
 use Rattle.ap_eval.specs.AnswerSets.{IsAnswerSet}
 use Rattle.ap_eval.specs.AtomSets.{AtomSet, has}
 use Rattle.small_optima.specs.Preferred.{prefers}

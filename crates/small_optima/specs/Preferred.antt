@@ -3,13 +3,13 @@
 use Rattle.std.specs.Prelude.{ℕ, Bool, false, not, ◌&&◌, ◌||◌, List, [], ◌∷◌, Option, None, Some, if◌then◌else◌}
 use Rattle.std.specs.List.{list_all}
 use Rattle.std.specs.Str.{bytes_eq}
-use Rattle.ap_syntax.specs.declared.tree.Element.{Element}
-use Rattle.ap_syntax.specs.declared.tree.Formula.{Formula}
-use Rattle.ap_syntax.specs.declared.tree.Formula.TheVariants.{Atom}
-use Rattle.ap_syntax.specs.declared.tree.Preference.{Preference}
-use Rattle.ap_syntax.specs.declared.tree.Program.{Program}
+use Rattle.ap_syntax.specs.declared.small.Element.{Element}
+use Rattle.ap_syntax.specs.declared.small.Formula.{Formula}
+use Rattle.ap_syntax.specs.declared.small.Formula.TheVariants.{Atom}
+use Rattle.ap_syntax.specs.declared.small.Preference.{Preference}
+use Rattle.ap_syntax.specs.declared.small.Program.{Program}
 use Rattle.ap_eval.specs.AtomSets.{AtomSet}
-use Rattle.ap_parse.specs.Language.{optimised_of, preferences_of}
+use Rattle.small_parse.specs.Language.{optimised_of, preferences_of}
 
 abbrev pub formula_true : AtomSet → Formula → Bool
 formula_true x (Atom atom) = x atom.name

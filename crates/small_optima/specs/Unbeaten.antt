@@ -1,9 +1,9 @@
 -- Which of some sets are preferred to others among them.
 use Rattle.std.specs.Prelude.{ℕ, List, All, Bool, [], map, IsFalse, Option, None, Some}
 use Rattle.ap_eval.specs.AtomSets.{has}
-use Rattle.ap_syntax.specs.declared.tree.Element.{Element}
-use Rattle.ap_syntax.specs.declared.tree.Preference.{Preference}
-use Rattle.ap_syntax.specs.declared.tree.Program.{Program}
+use Rattle.ap_syntax.specs.declared.small.Element.{Element}
+use Rattle.ap_syntax.specs.declared.small.Preference.{Preference}
+use Rattle.ap_syntax.specs.declared.small.Program.{Program}
 use Rattle.small_optima.specs.Preferred.{prefers, satisfies}
 
 -- no set of these is preferred to this one

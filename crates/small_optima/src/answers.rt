@@ -10,7 +10,8 @@ use crate::atoms::atoms_to_try;
 use crate::optima::TrialFault;
 use crate::subsets::subsets;
 use ap_eval::small_answer_set;
-use ap_syntax::{Program, Text};
+use ap_syntax::Text;
+use ap_syntax::small::Program;
 use sqlite_items::Items;
 use std::alloc::{AllocError, Global};
 

@@ -10,7 +10,8 @@ ghost use Rattle.small_optima.specs.Atoms.{atom_count, head_names, literal_name,
 ghost use Rattle.small_optima.specs.Optimal.{atom_cmp};
 
 use crate::optima::TrialFault;
-use ap_syntax::{BodyItem, ChoiceElement, HeadForm, Literal, Program, Rule, Statement, Text};
+use ap_syntax::Text;
+use ap_syntax::small::{BodyItem, ChoiceElement, HeadForm, Literal, Program, Rule, Statement};
 use std::alloc::{AllocError, Global};
 use std::collections::BTreeSet;
 

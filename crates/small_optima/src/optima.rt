@@ -6,7 +6,8 @@ ghost use Rattle.small_optima.specs.declared.optima.TrialFault.TheVariants.{Memo
 
 use crate::answers::all_answer_sets;
 use crate::preferred::unbeaten_sets;
-use ap_syntax::{Program, Text};
+use ap_syntax::Text;
+use ap_syntax::small::Program;
 use sqlite_items::Items;
 use std::alloc::{AllocError, AllocFailed, Global};
 use std::error::Error;

@@ -3,13 +3,14 @@ ghost use Rattle.std.specs.Prelude.{◌≡◌, ℕ, Bool, List, map, IfOk, slice
 ghost use Rattle.std.specs.List.{list_any};
 ghost use Rattle.std.specs.Option.{option_copied};
 ghost use Rattle.ap_eval.specs.AtomSets.{has};
-ghost use Rattle.ap_parse.specs.Language.{optimised_of, preferences_of};
+ghost use Rattle.small_parse.specs.Language.{optimised_of, preferences_of};
 ghost use Rattle.small_optima.specs.Kept.{Kept};
 ghost use Rattle.small_optima.specs.Marks.{marks_better, marks_part};
 ghost use Rattle.small_optima.specs.Preferred.{optimised, preference_named, satisfies};
 ghost use Rattle.small_optima.specs.Unbeaten.{IsUnbeatenIn, elements_of, marks_of};
 
-use ap_syntax::{Element, Formula, Preference, Program, Statement, Text};
+use ap_syntax::Text;
+use ap_syntax::small::{Element, Formula, Preference, Program, Statement};
 use sqlite_items::Items;
 use std::alloc::{AllocError, Global};
 

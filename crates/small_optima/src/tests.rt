@@ -1,8 +1,9 @@
 // Programs whose optimal answer sets are known.
 use crate::{Optima, TrialFault, list_optima};
-use ap_syntax::{
+use ap_syntax::Text;
+use ap_syntax::small::{
     Atom, BodyItem, ChoiceElement, Element, Formula, HeadForm, Literal, Preference, Program, Rule,
-    Statement, Text,
+    Statement,
 };
 use sqlite_items::Items;
 use std::alloc::{AllocError, Global};

@@ -6,7 +6,7 @@ use Rattle.std.proofs.lemmas.Iterator.Consumers.{YieldsList-end}
 use Rattle.std.proofs.lemmas.List.{map-id}
 use Rattle.ap_eval.specs.AnswerSets.{IsAnswerSet}
 use Rattle.ap_eval.specs.AtomSets.{has}
-use Rattle.ap_syntax.specs.declared.tree.Program.{Program}
+use Rattle.ap_syntax.specs.declared.small.Program.{Program}
 use Rattle.small_optima.specs.Kept.{Kept, none}
 use Rattle.small_optima.proofs.Keeping.{Kept-push_yes, Kept-push_no}
 use Rattle.small_optima.proofs.answers.answer_sets.Goals as goal

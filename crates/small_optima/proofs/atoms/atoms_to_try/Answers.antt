@@ -6,9 +6,9 @@ use Rattle.std.proofs.lemmas.List.{append-nil, take_all}
 use Rattle.std.proofs.lemmas.List.Concat.{flat_map-append}
 use Rattle.std.proofs.lemmas.List.Elements.{filter_map-append}
 use Rattle.std.proofs.lemmas.Result.{err_from_is_err_and}
-use Rattle.ap_syntax.specs.declared.tree.Statement.{Statement}
-use Rattle.ap_syntax.specs.declared.tree.Statement.TheVariants as statement
-use Rattle.ap_syntax.specs.declared.tree.Rule.{Rule}
+use Rattle.ap_syntax.specs.declared.small.Statement.{Statement}
+use Rattle.ap_syntax.specs.declared.small.Statement.TheVariants as statement
+use Rattle.ap_syntax.specs.declared.small.Rule.{Rule}
 use Rattle.ap_eval.specs.Reduct.{rule_of}
 use Rattle.small_optima.specs.declared.optima.TrialFault.TheVariants.{TooMany}
 use Rattle.small_optima.specs.Adds.{Adds, ExceedsTwelve}

@@ -2,7 +2,7 @@
 use Rattle.std.proofs.Common.{◌≡◌, ◌∙◌, ◌++◌, List, ℕ, sym, ap, Err, map}
 use Rattle.std.proofs.lemmas.List.{map-append}
 use Rattle.std.proofs.lemmas.Result.{err_from_is_err_and}
-use Rattle.ap_syntax.specs.declared.tree.BodyItem.{BodyItem}
+use Rattle.ap_syntax.specs.declared.small.BodyItem.{BodyItem}
 use Rattle.ap_eval.specs.Reduct.{literal_of}
 use Rattle.small_optima.specs.Atoms.{literal_name}
 use Rattle.small_optima.proofs.Names.{ExceedsTwelve-at}

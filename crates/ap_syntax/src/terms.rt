@@ -1,0 +1,87 @@
+// Terms, atoms and literals.
+use crate::text::Text;
+use sqlite_items::{Boxed, Items};
+
+/// An operator of sums.
+#[derive(Clone, Copy, Debug, PartialEq, Eq)]
+pub enum SumOp {
+    /// `+`
+    Plus,
+    /// `-`
+    Less,
+}
+
+/// An operator of products.
+#[derive(Clone, Copy, Debug, PartialEq, Eq)]
+pub enum ProductOp {
+    /// `*`
+    Times,
+    /// `/`, the quotient rounded toward 0
+    Over,
+    /// `\`, the remainder of that division
+    Rest,
+}
+
+/// A relation of two values in the order of values.
+#[derive(Clone, Copy, Debug, PartialEq, Eq)]
+pub enum Rel {
+    /// `=`, which `==` is another spelling of
+    Eq,
+    /// `!=`
+    Ne,
+    /// `<`
+    Lt,
+    /// `<=`
+    Le,
+    /// `>`
+    Gt,
+    /// `>=`
+    Ge,
+}
+
+/// A term, as it is written. A term in parentheses is that term, so no tree has parentheses.
+#[derive(Debug, Drop)]
+pub enum Term {
+    /// A number as it is written, from 0 to 2,147,483,647. A negative one is the `Minus` of a number.
+    Int(i64),
+    /// A string, by its characters: without its quotes, and with a backslash, a quote or a line feed for each escape.
+    Str(Text),
+    /// A symbolic constant, by its name.
+    Const(Text),
+    /// A variable, by its name.
+    Var(Text),
+    /// `_`, a variable of its own at each place.
+    Any,
+    /// A compound: a name and its arguments, 1 to 32 of them.
+    Fun(Text, Items<Term>),
+    /// A tuple of 0 to 32 members.
+    Tuple(Items<Term>),
+    /// The negation of a number.
+    Minus(Boxed<Term>),
+    /// A sum or a difference.
+    Sum(Boxed<Term>, SumOp, Boxed<Term>),
+    /// A product, a quotient or a remainder.
+    Product(Boxed<Term>, ProductOp, Boxed<Term>),
+    /// An interval `a..b`, whose values are all integers from the one end to the other.
+    Range(Boxed<Term>, Boxed<Term>),
+}
+
+/// An atom: a predicate's name with its arguments.
+#[derive(Debug, Drop)]
+pub struct Atom {
+    /// The name of the predicate.
+    pub name: Text,
+    /// The arguments, 0 to 32 of them. An atom without arguments is written without parentheses.
+    pub terms: Items<Term>,
+}
+
+/// An atom, an atom under default negation, or a comparison.
+#[derive(Debug, Drop)]
+pub enum Literal {
+    /// An atom.
+    Pos(Atom),
+    /// `not` and an atom.
+    Not(Atom),
+    /// A comparison of two terms.
+    Compare(Term, Rel, Term),
+}
