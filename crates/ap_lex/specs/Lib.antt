@@ -1,0 +1,6 @@
+pub mod Bytes
+pub mod Faults
+pub mod Forms
+pub mod Pieces
+pub mod Places
+pub mod Tokens
