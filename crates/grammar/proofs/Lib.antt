@@ -1,0 +1,10 @@
+pub mod Laws
+pub mod Faults
+pub mod Main
+pub mod Loops
+pub mod Check
+pub mod Simulate
+pub mod Shrinks
+pub mod Productive
+pub mod Interpret
+pub mod OnePlace

@@ -1,0 +1,6 @@
+pub mod Form
+pub mod Fault
+pub mod Tables
+pub mod Takes
+pub mod Image
+pub mod Readable
