@@ -1,0 +1,17 @@
+pub mod Predictive
+pub mod Readable
+pub mod Sorts
+pub mod Known
+pub mod ToTexts
+pub mod ToBodies
+pub mod ToItems
+pub mod ToRanks
+pub mod ToMixed
+pub mod ToDocument
+pub mod FromTexts
+pub mod FromBodies
+pub mod FromItems
+pub mod FromTerms
+pub mod FromRanks
+pub mod FromDocument
+pub mod Places
