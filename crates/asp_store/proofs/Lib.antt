@@ -1,0 +1,11 @@
+pub mod EditLemmas
+pub mod ExamineLemmas
+pub mod HeadLemmas
+pub mod KeepLemmas
+pub mod LevelLemmas
+pub mod PlaceLemmas
+pub mod RoundLemmas
+pub mod StoreLemmas
+pub mod SweepLemmas
+pub mod VisitLemmas
+pub mod WatchLemmas

@@ -1,0 +1,3 @@
+pub mod Plain
+pub mod Store
+pub mod Watch
