@@ -1,0 +1,6 @@
+pub mod CallerLemmas
+pub mod CountLemmas
+pub mod GatherLemmas
+pub mod LearnLemmas
+pub mod LevelLemmas
+pub mod WalkLemmas
