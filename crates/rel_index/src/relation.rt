@@ -2,7 +2,7 @@
 ghost use Rattle.std.specs.Prelude.{◌≡◌, ◌+◌, ◌^◌, ◌<◌, ◌↔◌, [], ◌∷◌, ◌++◌, length, All, OnOk, OnErr, IsTrue, slice_get, Some};
 ghost use Rattle.rel_index.specs.Rows.{IsRowOf};
 
-use ap_term::{Args, TermId};
+use ap_term::TermId;
 use std::alloc::{AllocError, Global};
 use std::marker::Model;
 
@@ -13,18 +13,20 @@ use std::marker::Model;
 #[derive(Drop)]
 pub struct Relation {
     arity: u32,
-    rows: Vec<Args>,
+    count: u32,
+    // The members of the rows, one row behind the other.
+    ids: Vec<TermId>,
 }
 
 impl Model for Relation {
-    ghost use Rattle.std.specs.Prelude.{◌^◌, ◌<◌, All, length};
-    ghost use Rattle.rel_index.specs.Rows.{Table, IsRowOf};
+    ghost use Rattle.std.specs.Prelude.{◌≡◌, ◌*◌, length};
+    ghost use Rattle.rel_index.specs.Rows.{Table, rows_of};
 
     ghost Value = { Table };
 
-    ghost view = { λ r. record { arity = r.arity; rows = r.rows.items } };
+    ghost view = { λ r. record { arity = r.arity; rows = rows_of r.arity r.count r.ids.items } };
 
-    ghost invariant = { λ r. All (IsRowOf r.arity) r.rows.items × (length r.rows.items < 2 ^ 32) };
+    ghost invariant = { λ r. length r.ids.items ≡ r.count * r.arity };
 }
 
 impl Relation {
@@ -35,7 +37,8 @@ impl Relation {
     {
         Relation {
             arity,
-            rows: Vec::new(alloc),
+            count: 0,
+            ids: Vec::new(alloc),
         }
     }
 
@@ -50,14 +53,14 @@ impl Relation {
     pub fn len(&self) -> u32
         ensures { result ≡ length self.now.rows }
     {
-        self.rows.len() as u32
+        self.count
     }
 
     /// Whether there is no row.
     pub fn is_empty(&self) -> bool
         ensures { IsTrue result ↔ (self.now.rows ≡ []) }
     {
-        self.rows.is_empty()
+        self.count == 0
     }
 
     /// The row at a place, counted from 0.
@@ -66,19 +69,21 @@ impl Relation {
         ensures row { slice_get self.now.rows place ≡ Some result.now }
         ensures size { IsRowOf self.now.arity result.now }
     {
-        self.rows[place as usize].as_slice()
+        let arity = self.arity as usize;
+        let start = place as usize * arity;
+        &self.ids[start..start + arity]
     }
 
     /// Puts a row behind the others. It fails only where there is no memory for it, and then changes nothing.
-    pub fn push(&mut self, alloc: Global, row: &[TermId]) -> Result<(), AllocError>
+    pub fn push(&mut self, row: &[TermId]) -> Result<(), AllocError>
         requires size { IsRowOf self.old.arity row.now }
         requires room { length self.old.rows + 1 < 2 ^ 32 }
         ensures arity { self.new.arity ≡ self.old.arity }
         ensures ok { OnOk result (self.new.rows ≡ self.old.rows ++ row.now ∷ []) }
         ensures err { OnErr result (self.new.rows ≡ self.old.rows) }
     {
-        let row = Args::from_vec(Vec::from_slice(alloc, row)?);
-        self.rows.push(row)?;
+        self.ids.extend_from_slice(row)?;
+        self.count += 1;
         Ok(())
     }
 }

@@ -49,14 +49,10 @@ fn goes_down(bound: &[(u32, TermId)]) -> bool
     true
 }
 
-fn push(
-    rt: &(impl Abort + AllocGlobal),
-    relation: &mut Relation,
-    row: &[TermId],
-) -> Result<(), Fail> {
+fn push(rt: &impl Abort, relation: &mut Relation, row: &[TermId]) -> Result<(), Fail> {
     assert!(rt; relation.arity() as usize == row.len());
     assert!(rt; relation.len() < 100);
-    relation.push(rt.alloc(), row)?;
+    relation.push(row)?;
     Ok(())
 }
 

@@ -1,0 +1,4 @@
+pub mod Tuples
+pub mod Gathered
+pub mod Merged
+pub mod Rows

@@ -1,0 +1,17 @@
+//! The tuples of an aggregate or a choice, with the conditions under which they count.
+#![tactic(auto)]
+
+mod fault;
+mod gathering;
+mod grouping;
+mod merging;
+mod order;
+mod pair;
+mod row;
+#[cfg(test)]
+mod tests;
+
+pub use fault::AggFault;
+pub use gathering::gather;
+pub use pair::Pair;
+pub use row::TupleRow;

@@ -1,0 +1,12 @@
+//! A tuple with a condition.
+use ap_term::Args;
+use sqlite_items::Items;
+
+/// A tuple that was found, with one condition under which it counts.
+#[derive(Debug, Drop)]
+pub struct Pair {
+    /// The members of the tuple, from first to last. There may be none, or more than a written tuple may have.
+    pub tuple: Args,
+    /// Signed places in a list of atoms: a place for the atom, and its negation for `not`.
+    pub condition: Items<i64>,
+}
