@@ -1,2 +1,11 @@
 pub mod Reading
 pub mod Marks
+pub mod TruthLemmas
+pub mod ListLemmas
+pub mod ReductionLemmas
+pub mod AnswerLemmas
+pub mod AgreementLemmas
+pub mod LevelLemmas
+pub mod AcyclicLemmas
+pub mod LooksLemmas
+pub mod DecisionLemmas

@@ -8,7 +8,7 @@ use Rattle.std.proofs.lemmas.List.Folds.{list_any_none, list_any_at}
 use Rattle.std.proofs.lemmas.List.Sums.{fails_before_first, sum_by-set}
 use Rattle.std.proofs.lemmas.List.Quantifiers.{position-Some}
 use Rattle.std.proofs.lemmas.Slice.Zip.{get_or-zip, length-zip}
-use Rattle.ap_syntax.specs.declared.tree.Statement.{Statement}
+use Rattle.ap_syntax.specs.declared.small.Statement.{Statement}
 use Rattle.ap_eval.specs.AtomSets.{AtomSet, IsSubset, has}
 use Rattle.ap_eval.specs.Derivations.{is_derivable, IsClosedWithin, marked}
 use Rattle.ap_eval.proofs.Reading.{same_name, own_name, more_derivable}

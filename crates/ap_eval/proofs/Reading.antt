@@ -7,16 +7,16 @@ use Rattle.std.proofs.lemmas.Bool.{and_parts, and_from, or_cases, or_left, or_ri
 use Rattle.std.proofs.lemmas.List.Elements.{All-from_recursion, recursion_from_All}
 use Rattle.std.proofs.lemmas.List.Folds.{list_all-map}
 use Rattle.std.proofs.lemmas.Slice.Eq.{bytes_eq-Decides}
-use Rattle.ap_syntax.specs.declared.tree.BodyItem.{BodyItem}
-use Rattle.ap_syntax.specs.declared.tree.BodyItem.TheVariants.{Plain}
-use Rattle.ap_syntax.specs.declared.tree.ChoiceElement.{ChoiceElement}
-use Rattle.ap_syntax.specs.declared.tree.HeadForm.{HeadForm}
-use Rattle.ap_syntax.specs.declared.tree.HeadForm.TheVariants.{One, Choice, Nothing}
-use Rattle.ap_syntax.specs.declared.tree.Literal.TheVariants.{Pos, Not}
-use Rattle.ap_syntax.specs.declared.tree.Program.{Program}
-use Rattle.ap_syntax.specs.declared.tree.Rule as tree
-use Rattle.ap_syntax.specs.declared.tree.Statement.{Statement}
-use Rattle.ap_syntax.specs.declared.tree.Statement.TheVariants.{Rule, Preference, Optimize}
+use Rattle.ap_syntax.specs.declared.small.BodyItem.{BodyItem}
+use Rattle.ap_syntax.specs.declared.small.BodyItem.TheVariants.{Plain}
+use Rattle.ap_syntax.specs.declared.small.ChoiceElement.{ChoiceElement}
+use Rattle.ap_syntax.specs.declared.small.HeadForm.{HeadForm}
+use Rattle.ap_syntax.specs.declared.small.HeadForm.TheVariants.{One, Choice, Nothing}
+use Rattle.ap_syntax.specs.declared.small.Literal.TheVariants.{Pos, Not}
+use Rattle.ap_syntax.specs.declared.small.Program.{Program}
+use Rattle.ap_syntax.specs.declared.small.Rule as tree
+use Rattle.ap_syntax.specs.declared.small.Statement.{Statement}
+use Rattle.ap_syntax.specs.declared.small.Statement.TheVariants.{Rule, Preference, Optimize}
 use Rattle.ap_eval.specs.AtomSets.{AtomSet, IsSubset, has}
 use Rattle.ap_eval.specs.Reduct.{Definite, rule_of, rules_of, literal_of, literal_true, body_true, not_refuted, positive_of, element_name, heads_in, reduced, reduct}
 use Rattle.ap_eval.specs.AnswerSets.{IsClosed, IsAnswerSet}

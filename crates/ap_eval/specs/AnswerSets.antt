@@ -1,9 +1,9 @@
 -- Answer sets (Gelfond and Lifschitz 1988).
 use Rattle.std.specs.Prelude.{◌≡◌, List, All, IsTrue, IsFalse}
 use Rattle.std.specs.List.{list_all}
-use Rattle.ap_syntax.specs.declared.tree.HeadForm.TheVariants.{Nothing}
-use Rattle.ap_syntax.specs.declared.tree.Program.{Program}
-use Rattle.ap_syntax.specs.declared.tree.Rule.{Rule}
+use Rattle.ap_syntax.specs.declared.small.HeadForm.TheVariants.{Nothing}
+use Rattle.ap_syntax.specs.declared.small.Program.{Program}
+use Rattle.ap_syntax.specs.declared.small.Rule.{Rule}
 use Rattle.ap_eval.specs.AtomSets.{AtomSet, IsSubset}
 use Rattle.ap_eval.specs.Reduct.{Definite, body_true, reduct, rules_of}
 

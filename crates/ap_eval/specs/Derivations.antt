@@ -2,14 +2,14 @@
 use Rattle.std.specs.Prelude.{ℕ, Bool, true, false, not, ◌&&◌, ◌||◌, List, IsTrue}
 use Rattle.std.specs.List.{list_all, list_any, zip}
 use Rattle.std.specs.Str.{bytes_eq}
-use Rattle.ap_syntax.specs.declared.tree.BodyItem.{BodyItem}
-use Rattle.ap_syntax.specs.declared.tree.ChoiceElement.{ChoiceElement}
-use Rattle.ap_syntax.specs.declared.tree.HeadForm.{HeadForm}
-use Rattle.ap_syntax.specs.declared.tree.HeadForm.TheVariants.{One, Choice, Nothing}
-use Rattle.ap_syntax.specs.declared.tree.Literal.{Literal}
-use Rattle.ap_syntax.specs.declared.tree.Literal.TheVariants.{Pos, Not}
-use Rattle.ap_syntax.specs.declared.tree.Statement.{Statement}
-use Rattle.ap_syntax.specs.declared.tree.Statement.TheVariants.{Rule, Preference, Optimize}
+use Rattle.ap_syntax.specs.declared.small.BodyItem.{BodyItem}
+use Rattle.ap_syntax.specs.declared.small.ChoiceElement.{ChoiceElement}
+use Rattle.ap_syntax.specs.declared.small.HeadForm.{HeadForm}
+use Rattle.ap_syntax.specs.declared.small.HeadForm.TheVariants.{One, Choice, Nothing}
+use Rattle.ap_syntax.specs.declared.small.Literal.{Literal}
+use Rattle.ap_syntax.specs.declared.small.Literal.TheVariants.{Pos, Not}
+use Rattle.ap_syntax.specs.declared.small.Statement.{Statement}
+use Rattle.ap_syntax.specs.declared.small.Statement.TheVariants.{Rule, Preference, Optimize}
 use Rattle.ap_eval.specs.AtomSets.{AtomSet, IsSubset}
 use Rattle.ap_eval.specs.Reduct.{literal_of, literal_true}
 

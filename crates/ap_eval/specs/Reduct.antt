@@ -1,17 +1,17 @@
 -- Truth in a set of atoms, and the reduct of a program by such a set (Gelfond and Lifschitz 1988), with choices.
 use Rattle.std.specs.Prelude.{ℕ, Bool, true, not, List, [], ◌∷◌, map, filter, Option, None, Some, if◌then◌else◌}
 use Rattle.std.specs.List.{list_all, filter_map, flat_map}
-use Rattle.ap_syntax.specs.declared.tree.BodyItem.{BodyItem}
-use Rattle.ap_syntax.specs.declared.tree.BodyItem.TheVariants.{Plain}
-use Rattle.ap_syntax.specs.declared.tree.ChoiceElement.{ChoiceElement}
-use Rattle.ap_syntax.specs.declared.tree.HeadForm.{HeadForm}
-use Rattle.ap_syntax.specs.declared.tree.HeadForm.TheVariants.{One, Choice, Nothing}
-use Rattle.ap_syntax.specs.declared.tree.Literal.{Literal}
-use Rattle.ap_syntax.specs.declared.tree.Literal.TheVariants.{Pos, Not}
-use Rattle.ap_syntax.specs.declared.tree.Program.{Program}
-use Rattle.ap_syntax.specs.declared.tree.Rule as tree
-use Rattle.ap_syntax.specs.declared.tree.Statement.{Statement}
-use Rattle.ap_syntax.specs.declared.tree.Statement.TheVariants.{Rule, Preference, Optimize}
+use Rattle.ap_syntax.specs.declared.small.BodyItem.{BodyItem}
+use Rattle.ap_syntax.specs.declared.small.BodyItem.TheVariants.{Plain}
+use Rattle.ap_syntax.specs.declared.small.ChoiceElement.{ChoiceElement}
+use Rattle.ap_syntax.specs.declared.small.HeadForm.{HeadForm}
+use Rattle.ap_syntax.specs.declared.small.HeadForm.TheVariants.{One, Choice, Nothing}
+use Rattle.ap_syntax.specs.declared.small.Literal.{Literal}
+use Rattle.ap_syntax.specs.declared.small.Literal.TheVariants.{Pos, Not}
+use Rattle.ap_syntax.specs.declared.small.Program.{Program}
+use Rattle.ap_syntax.specs.declared.small.Rule as tree
+use Rattle.ap_syntax.specs.declared.small.Statement.{Statement}
+use Rattle.ap_syntax.specs.declared.small.Statement.TheVariants.{Rule, Preference, Optimize}
 use Rattle.ap_eval.specs.AtomSets.{AtomSet}
 
 -- the rules of a program, in order

@@ -2,12 +2,13 @@
 ghost use Rattle.std.specs.Prelude.{◌≡◌, ◌↔◌, ◌&&◌, not, length, position, IsTrue, IfOk};
 ghost use Rattle.std.specs.List.{list_all, list_any, zip};
 ghost use Rattle.std.specs.Str.{bytes_eq};
-ghost use Rattle.ap_syntax.specs.declared.tree.ChoiceElement.{ChoiceElement};
+ghost use Rattle.ap_syntax.specs.declared.small.ChoiceElement.{ChoiceElement};
 ghost use Rattle.ap_eval.specs.AtomSets.{AtomSet, IsSubset, has};
 ghost use Rattle.ap_eval.specs.Reduct as spec;
 ghost use Rattle.ap_eval.specs.Derivations as derivations;
 
-use ap_syntax::{BodyItem, ChoiceElement, HeadForm, Literal, Statement, Text};
+use ap_syntax::Text;
+use ap_syntax::small::{BodyItem, ChoiceElement, HeadForm, Literal, Statement};
 use std::alloc::{AllocError, Global};
 
 /// Whether an atom is at a marked place.

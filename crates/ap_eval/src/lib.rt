@@ -5,15 +5,28 @@ ghost use Rattle.std.specs.Prelude.{◌↔◌, IfOk, IsTrue};
 ghost use Rattle.ap_eval.specs.AtomSets.{has};
 ghost use Rattle.ap_eval.specs.AnswerSets.{IsAnswerSet};
 
+mod acyclic;
+mod answer;
 mod derive;
+#[cfg(test)]
+mod ground_tests;
+mod looks;
+mod membership;
 mod model;
+mod reduction;
+mod tables;
 #[cfg(test)]
 mod tests;
+mod truth;
 
 use crate::derive::is_founded;
 use crate::model::is_model;
-use ap_syntax::{Program, Text};
+pub use acyclic::acyclic_model;
+pub use answer::is_answer_set;
+use ap_syntax::Text;
+use ap_syntax::small::Program;
 use std::alloc::{AllocError, Global};
+pub use truth::body_true;
 
 /// Whether the set of these atoms is an answer set of the program (Gelfond and Lifschitz 1988): it is the least set
 /// that is closed under its reduct, and no constraint's body is true in it. A choice rule lets each of its atoms be in

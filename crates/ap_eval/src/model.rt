@@ -5,7 +5,8 @@ ghost use Rattle.ap_eval.specs.AtomSets.{has};
 ghost use Rattle.ap_eval.specs.Reduct as spec;
 ghost use Rattle.ap_eval.specs.Derivations as derivations;
 
-use ap_syntax::{BodyItem, HeadForm, Literal, Statement, Text};
+use ap_syntax::Text;
+use ap_syntax::small::{BodyItem, HeadForm, Literal, Statement};
 
 /// Whether a part of a body is true.
 fn item_true(x: &[Text], item: &BodyItem) -> bool

@@ -1,6 +1,9 @@
 // Programs and sets whose answers are known. In a body, `not a` is the default negation of `a`.
 use crate::small_answer_set;
-use ap_syntax::{Atom, BodyItem, ChoiceElement, HeadForm, Literal, Program, Rule, Statement, Text};
+use ap_syntax::Text;
+use ap_syntax::small::{
+    Atom, BodyItem, ChoiceElement, HeadForm, Literal, Program, Rule, Statement,
+};
 use sqlite_items::Items;
 use std::alloc::{AllocError, Global};
 use std::process::Abort;
