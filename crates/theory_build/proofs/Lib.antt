@@ -1,0 +1,17 @@
+pub mod AscendingLemmas
+pub mod Examples
+pub mod OrderLemmas
+pub mod SortLemmas
+pub mod PieceLemmas
+pub mod GroupLemmas
+pub mod ListLemmas
+pub mod BodyLemmas
+pub mod PlaceLemmas
+pub mod HeadLemmas
+pub mod AtomLemmas
+pub mod PlanLemmas
+pub mod GrowthLemmas
+pub mod AddableLemmas
+pub mod BaseLemmas
+pub mod TheoryLemmas
+pub mod ExclusionLemmas

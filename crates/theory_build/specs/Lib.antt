@@ -1,0 +1,15 @@
+pub mod Ascending
+pub mod Entries
+pub mod Drafts
+pub mod Growth
+pub mod Heads
+pub mod Marks
+pub mod Order
+pub mod Pieces
+pub mod Frames
+pub mod Groups
+pub mod Bodies
+pub mod Atoms
+pub mod Plans
+pub mod Completion
+pub mod Exclusion
