@@ -1,0 +1,5 @@
+pub mod Sums
+pub mod Implied
+pub mod Known
+pub mod Ends
+pub mod Slack
