@@ -1,5 +1,6 @@
 -- One token of foresight tells at each place of the factored grammar which way to go.
-use Rattle.std.proofs.Common.{◌≡◌, ℕ, List, [], ◌∷◌, refl, Bool, true, false, Some, eq-eqb}
+use Rattle.std.proofs.Common.{◌≡◌, ℕ, List, [], ◌∷◌, refl, sym, ◌∙◌, ap, Bool, true, false, Some, eq-eqb}
+use Rattle.std.proofs.lemmas.Bool.{eqb-true}
 use Rattle.grammar.specs.Tables.{IsPredictive, some_in}
 use Rattle.grammar.proofs.Check as check
 use Rattle.ap_grammar.specs.declared.terminals.Terminal.{Terminal}
@@ -67,8 +68,12 @@ every = check.every_in terminals
 all : (q : Terminal → Bool) → every q ≡ true → (k : Terminal) → q k ≡ true
 all q h k = check.every_at terminals q (number k) k h (listed k)
 
-same_itself : (k : Terminal) → same k k ≡ true
+pub same_itself : (k : Terminal) → same k k ≡ true
 same_itself k = eq-eqb _ _ refl
+
+-- no two terminals have one number
+pub same_is : (j k : Terminal) → same j k ≡ true → j ≡ k
+same_is j k h = let e : Some j ≡ Some k = sym (listed j) ∙ ap (check.kind_at terminals) (eqb-true _ _ h) ∙ listed k in cc
 
 abbrev place : Class → ℕ
 place Bare = 0
