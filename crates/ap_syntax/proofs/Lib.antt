@@ -1,0 +1,5 @@
+pub mod Escapes
+pub mod Joined
+pub mod KindTexts
+pub mod Pushes
+pub mod Written

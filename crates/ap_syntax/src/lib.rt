@@ -4,6 +4,11 @@
 mod copies;
 mod equality;
 mod preferences;
+mod printed;
+mod printed_lists;
+mod printed_preferences;
+mod printed_rules;
+mod printed_terms;
 mod programs;
 mod rule_copies;
 mod rules;
@@ -12,6 +17,7 @@ mod terms;
 mod text;
 
 pub use preferences::{Element, Formula, Preference, Ranked, Target};
+pub use printed::print_program;
 pub use programs::{PartKind, Program, Statement};
 pub use rules::{AggElement, BodyItem, ChoiceElement, Function, Guard, HeadForm, Rule};
 pub use terms::{Atom, Literal, ProductOp, Rel, SumOp, Term};

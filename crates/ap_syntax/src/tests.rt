@@ -1,5 +1,8 @@
-// Copies and comparisons succeed where memory is ample.
-use crate::{Atom, BodyItem, HeadForm, Literal, Rel, Rule, SumOp, Term, Text};
+// Copies and comparisons succeed where memory is ample, and texts are as they are written by hand.
+use crate::{
+    Atom, BodyItem, ChoiceElement, Guard, HeadForm, Literal, PartKind, ProductOp, Program, Rel,
+    Rule, Statement, SumOp, Term, Text, print_program,
+};
 use sqlite_items::{Boxed, Items};
 use std::alloc::{AllocError, Global};
 use std::test::Fail;
@@ -47,5 +50,164 @@ fn copies_a_rule(rt: HostRuntime) -> Result<(), Fail> {
     let copied = rule.copy(alloc)?;
     assert_eq!(rt; copied.at, 7);
     assert_eq!(rt; copied.body.len(), 1);
+    Ok(())
+}
+
+/// A sum or a difference.
+fn summed(alloc: Global, left: Term, op: SumOp, right: Term) -> Result<Term, AllocError> {
+    let left = Boxed::new(alloc, left)?;
+    Ok(Term::Sum(left, op, Boxed::new(alloc, right)?))
+}
+
+/// `#const c = value.`
+fn declared(alloc: Global, value: Term) -> Result<Statement, AllocError> {
+    Ok(Statement::Const {
+        file: 1,
+        at: 0,
+        name: Text::new(alloc, "c")?,
+        value,
+    })
+}
+
+/// Terms that need parentheses, and terms that need none.
+fn operators(alloc: Global) -> Result<Vec<Statement>, AllocError> {
+    let mut statements = Vec::new(alloc);
+    let minus = Term::Minus(Boxed::new(alloc, Term::Int(1))?);
+    statements.push(declared(alloc, Term::Minus(Boxed::new(alloc, minus)?))?)?;
+    let right = summed(alloc, Term::Int(2), SumOp::Less, Term::Int(3))?;
+    let term = summed(alloc, Term::Int(1), SumOp::Less, right)?;
+    statements.push(declared(alloc, term)?)?;
+    let left = summed(alloc, Term::Int(1), SumOp::Less, Term::Int(2))?;
+    let term = summed(alloc, left, SumOp::Less, Term::Int(3))?;
+    statements.push(declared(alloc, term)?)?;
+    let left = Boxed::new(alloc, Term::Const(Text::new(alloc, "a")?))?;
+    let right = summed(
+        alloc,
+        Term::Any,
+        SumOp::Plus,
+        Term::Str(Text::new(alloc, "\"")?),
+    )?;
+    let term = Term::Product(left, ProductOp::Times, Boxed::new(alloc, right)?);
+    statements.push(declared(alloc, term)?)?;
+    let high = summed(alloc, Term::Int(2), SumOp::Plus, Term::Int(3))?;
+    let low = Boxed::new(alloc, Term::Int(1))?;
+    let term = Term::Range(low, Boxed::new(alloc, high)?);
+    statements.push(declared(alloc, term)?)?;
+    Ok(statements)
+}
+
+#[test]
+fn prints_operators(rt: HostRuntime) -> Result<(), Fail> {
+    let alloc = rt.alloc();
+    let statements = Items::from_vec(operators(alloc)?);
+    let mut out = String::new(alloc);
+    print_program(&Program { statements }, &mut out)?;
+    let text =
+        "#const c = -(-1).\n#const c = 1 - (2 - 3).\n#const c = 1 - 2 - 3.\n#const c = a * (_ + \"\\\"\").\n#const c = 1..2 + 3.\n";
+    assert_eq!(rt; out.as_str(), text);
+    Ok(())
+}
+
+/// An atom whose one argument is `X`.
+fn of_x(alloc: Global, name: &str) -> Result<Atom, AllocError> {
+    let mut terms = Vec::new(alloc);
+    terms.push(Term::Var(Text::new(alloc, "X")?))?;
+    Ok(Atom {
+        name: Text::new(alloc, name)?,
+        terms: Items::from_vec(terms),
+    })
+}
+
+/// `q(X), not r(X)`
+fn literals(alloc: Global) -> Result<Items<Literal>, AllocError> {
+    let mut literals = Vec::new(alloc);
+    literals.push(Literal::Pos(of_x(alloc, "q")?))?;
+    literals.push(Literal::Not(of_x(alloc, "r")?))?;
+    Ok(Items::from_vec(literals))
+}
+
+/// `1 <= {p(X) : q(X), not r(X)} != ()`
+fn choice(alloc: Global) -> Result<HeadForm, AllocError> {
+    let mut elements = Vec::new(alloc);
+    let atom = of_x(alloc, "p")?;
+    let condition = literals(alloc)?;
+    elements.push(ChoiceElement { atom, condition })?;
+    Ok(HeadForm::Choice {
+        left: Some(Guard {
+            rel: Rel::Le,
+            term: Term::Int(1),
+        }),
+        elements: Items::from_vec(elements),
+        right: Some(Guard {
+            rel: Rel::Ne,
+            term: Term::Tuple(Items::new(alloc)),
+        }),
+    })
+}
+
+/// `q(X) : q(X), not r(X); not r(X)`
+fn parts(alloc: Global) -> Result<Items<BodyItem>, AllocError> {
+    let mut body = Vec::new(alloc);
+    body.push(BodyItem::All {
+        at: 0,
+        literal: Literal::Pos(of_x(alloc, "q")?),
+        condition: literals(alloc)?,
+    })?;
+    body.push(BodyItem::Plain(Literal::Not(of_x(alloc, "r")?)))?;
+    Ok(Items::from_vec(body))
+}
+
+/// A rule of no file.
+fn rule(head: HeadForm, body: Items<BodyItem>) -> Statement {
+    Statement::Rule(Rule {
+        file: 0,
+        at: 0,
+        head,
+        body,
+    })
+}
+
+/// `p(X) :- q(X), not r(X).`
+fn plain_rule(alloc: Global) -> Result<Statement, AllocError> {
+    let mut body = Vec::new(alloc);
+    body.push(BodyItem::Plain(Literal::Pos(of_x(alloc, "q")?)))?;
+    body.push(BodyItem::Plain(Literal::Not(of_x(alloc, "r")?)))?;
+    let head = HeadForm::One(of_x(alloc, "p")?);
+    Ok(rule(head, Items::from_vec(body)))
+}
+
+/// A `#program`.
+fn opened(part: PartKind) -> Statement {
+    Statement::Part {
+        file: 1,
+        at: 0,
+        part,
+    }
+}
+
+/// A rule, another one in a part of its own, and back.
+fn two_parts(alloc: Global) -> Result<Vec<Statement>, AllocError> {
+    let mut statements = Vec::new(alloc);
+    statements.push(plain_rule(alloc)?)?;
+    statements.push(opened(PartKind::Base))?;
+    statements.push(opened(PartKind::Kind(Text::new(alloc, "less(weight)")?)))?;
+    let head = choice(alloc)?;
+    statements.push(rule(head, parts(alloc)?))?;
+    statements.push(opened(PartKind::Base))?;
+    let mut members = Vec::new(alloc);
+    members.push(Term::Int(1))?;
+    statements.push(declared(alloc, Term::Tuple(Items::from_vec(members)))?)?;
+    Ok(statements)
+}
+
+#[test]
+fn prints_rules(rt: HostRuntime) -> Result<(), Fail> {
+    let alloc = rt.alloc();
+    let statements = Items::from_vec(two_parts(alloc)?);
+    let mut out = String::new(alloc);
+    print_program(&Program { statements }, &mut out)?;
+    let text =
+        "p(X) :- q(X), not r(X).\n#program preference(less(weight)).\n1 <= {p(X) : q(X), not r(X)} != () :- q(X) : q(X), not r(X); not r(X).\n#program base.\n#const c = (1, ).\n";
+    assert_eq!(rt; out.as_str(), text);
     Ok(())
 }

@@ -1,0 +1,10 @@
+use Rattle.std.proofs.Common.{◌≡◌, ◌++◌, drop, string_bytes}
+use Rattle.ap_syntax.specs.declared.programs.PartKind.TheVariants.{Base}
+use Rattle.ap_syntax.specs.Pieces.{text_of}
+use Rattle.ap_syntax.specs.Canonical.{lines}
+use Rattle.ap_syntax.proofs.Joined.{joined_lines}
+use Rattle.ap_syntax.proofs.printed.push_lines.Given as goal
+
+-- what is there, with the statements that are left, is the whole
+abbrev pub invariant-loop-statement : goal.invariant-loop-statement
+invariant-loop-statement l = string_bytes l.out ++ joined_lines l.part (drop l.statement-index l.statements) ≡ string_bytes l.initial.out ++ text_of (lines Base l.statements)
