@@ -1,0 +1,12 @@
+use Rattle.std.proofs.Common.{sym, ◌∙◌}
+use Rattle.ap_lexemes.proofs.ConstructLemmas.{spelled-here, spelled-later, spelled-nowhere}
+use Rattle.ap_lexemes.proofs.naming.spelled.Goals as goal
+
+pub returns-then-eq : goal.returns-then-eq
+returns-then-eq c = sym (c.loop-text.invariant ∙ spelled-here _ _ _ _ c.loop-text-test.true (sym c.eq.ensures ∙ c.if-eq.true))
+
+pub loop-text-preserved : goal.loop-text-preserved
+loop-text-preserved c = c.loop-text.invariant ∙ spelled-later _ _ _ _ c.loop-text-test.true (sym c.eq.ensures ∙ c.if-eq.false)
+
+pub returns : goal.returns
+returns c = sym (c.loop-text.invariant ∙ spelled-nowhere _ _ _ c.loop-text-test.false)

@@ -1,0 +1,9 @@
+pub mod Terminals
+pub mod Quotes
+pub mod Lexemes
+pub mod Limits
+pub mod Scanning
+pub mod Constructs
+pub mod Texts
+pub mod Stops
+pub mod Tokenizing
