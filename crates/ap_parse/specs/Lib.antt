@@ -1,0 +1,16 @@
+pub mod Reads
+pub mod Operands
+pub mod Terms
+pub mod Literals
+pub mod Guards
+pub mod Choices
+pub mod Heads
+pub mod Bodies
+pub mod Rules
+pub mod Aggregates
+pub mod Strings
+pub mod Statements
+pub mod Openings
+pub mod Sections
+pub mod Changes
+pub mod Texts
