@@ -1,0 +1,11 @@
+pub mod Choices
+pub mod FormulaLemmas
+pub mod OperatorLemmas
+pub mod Simple
+pub mod RestLemmas
+pub mod MixedLemmas
+pub mod Found
+pub mod RankLemmas
+pub mod ElementLemmas
+pub mod StatementLemmas
+pub mod FileLemmas

@@ -1,0 +1,10 @@
+use Rattle.std.proofs.Common.{true, ◌∷◌, ◌++◌, [], ◌∙◌, ap}
+use Rattle.ap_parse.proofs.Steps.{exit}
+use Rattle.ap_parse.proofs.SectionLemmas.{section_opening_fails, section_read}
+use Rattle.pref_parse.proofs.sections.read_section.Goals as goal
+
+pub returns-in_err-opening-clause-read : goal.returns-in_err-opening-clause-read
+returns-in_err-opening-clause-read c = exit c.in_err-opening.ensures.read c.from_residual.ensures.1 (section_opening_fails true)
+
+pub returns-clause-read : goal.returns-clause-read
+returns-clause-read c = section_read true c.in_ok-opening.ensures.read (c.in_ok-push.ensures.ok ∙ ap (λ s. c.args.statements ++ s ∷ []) c.into_statement.ensures) c.is_of_type-of_type.ensures c.read_statements.ensures.read

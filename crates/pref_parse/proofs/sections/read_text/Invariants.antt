@@ -1,0 +1,9 @@
+use Rattle.std.proofs.Common.{true, length, ◌≤◌}
+use Rattle.ap_parse.proofs.SectionLemmas.{Sections}
+use Rattle.pref_parse.proofs.sections.read_text.Given as goal
+
+abbrev pub invariant-sections : goal.invariant-sections
+invariant-sections l = record { shorter : length l.tokens ≤ length l.initial.tokens; so_far : Sections true l.initial.tokens l.tokens l.initial.statements l.statements }
+
+abbrev pub decreases-sections : goal.decreases-sections
+decreases-sections l = length l.tokens

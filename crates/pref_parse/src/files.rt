@@ -1,0 +1,24 @@
+// Whole files.
+ghost use Rattle.std.specs.Prelude.{◌≤◌, length};
+ghost use Rattle.pref_parse.specs.Readings.{IsReading};
+
+use crate::sections::read_text;
+use ap_lexemes::{ParseFault, tokenize};
+use ap_parse::{Cursor, program};
+use ap_syntax::{PartKind, Program};
+use std::alloc::Global;
+
+/// The program of a whole file of at most 16,777,216 bytes, which may have preference statements and begins in the base part.
+/// It leaves out each `#program` that opens the part already in force. `file` is the number of the file.
+///
+/// `Syntax`, `Unsupported` and `Limit` name the first fault: the first token with which no text goes on, a limit that stands
+/// before it, or the place behind all tokens. `Memory` comes for want of memory alone.
+pub fn parse_bytes(alloc: Global, bytes: &[u8], file: u32) -> Result<Program, ParseFault>
+    requires { length bytes.now ≤ 16777216 }
+    ensures { IsReading bytes.now file result }
+{
+    let tokenized = tokenize(alloc, bytes, file)?;
+    let mut tokens = Cursor::new(tokenized.readable());
+    let read = read_text(alloc, &mut tokens, false);
+    program(alloc, &tokenized, PartKind::Base, read, tokens.left())
+}
