@@ -1,0 +1,10 @@
+pub mod Walks
+pub mod Ends
+pub mod Numbering
+pub mod Statuses
+pub mod Steps
+pub mod Follows
+pub mod Closing
+pub mod Numbers
+pub mod Starts
+pub mod Laws
