@@ -1,0 +1,53 @@
+-- The names of unbound occurrences, and that there is one list of them.
+use Rattle.std.proofs.Common.{◌≡◌, refl, sym, ◌∙◌, ap, ap₂, subst, ℕ, false, ◌||◌, List, [], ◌∷◌, ◌++◌, append_assoc}
+use Rattle.std.specs.Prelude.{if◌then◌else◌, flat_map}
+use Rattle.std.proofs.lemmas.List.{append-nil}
+use mathlib.Core.Path.{fun_ext}
+use Rattle.ap_pieces.specs.declared.pieces.Mention.{Mention}
+use Rattle.ap_pieces.specs.declared.pieces.Piece.{Piece}
+use Rattle.ap_pieces.specs.declared.pieces.Piece.TheVariants.{Uses, Plain, Part}
+use Rattle.ap_bindings.specs.Bound.{Names, IsBound, no_names, bound_within, globals, plain_mentions, loose_part, IsLooseOf, AreLooseOf, AreLoose}
+use Rattle.ap_bindings.specs.Searches.{also, first_name, first_or}
+use Rattle.ap_bindings.proofs.NameLemmas.{same_names}
+
+-- ---- outside parts
+
+pub also_none : (none outside : Names) → ((name : List ℕ) → none name ≡ false) → also none outside ≡ outside
+also_none none outside e = fun_ext (λ name. ap (λ b. b || outside name) (e name))
+
+pub within_none : (none outside : Names) → ((name : List ℕ) → none name ≡ false) → bound_within none outside (also none outside) ≡ outside
+within_none none outside e = fun_ext (λ name. ap (λ b. if b then outside name else (b || outside name)) (e name))
+
+-- ---- first names
+
+pub first_append : (xs ys : List (List ℕ)) → first_name (xs ++ ys) ≡ first_or (first_name xs) (first_name ys)
+first_append [] ys = refl
+first_append (x ∷ xs) ys = refl
+
+-- ---- piece by piece
+
+pub loose_more : (global outside : Names) (pieces : List Piece) (piece : Piece) (names here : List (List ℕ)) → AreLooseOf global outside pieces names → IsLooseOf global outside piece here → AreLooseOf global outside (pieces ++ piece ∷ []) (names ++ here)
+loose_more global outside [] piece names here e h = (here, [], h, refl, ap (λ ns. ns ++ here) e ∙ sym (append-nil here))
+loose_more global outside (first ∷ pieces) piece names here h k =
+    (h.0, h.1 ++ here, h.2, loose_more global outside pieces piece h.1 here h.3 k, ap (λ ns. ns ++ here) h.4 ∙ append_assoc h.0 h.1 here)
+
+-- ---- one list
+
+one_bound : (given : Names) (conjunction : List Mention) (x y : Names) → IsBound given conjunction x → IsBound given conjunction y → x ≡ y
+one_bound given conjunction x y h k = same_names x y (h.least y k.given_ones k.closed) (k.least x h.given_ones h.closed)
+
+one_loose_of : (global outside : Names) (piece : Piece) (names others : List (List ℕ)) → IsLooseOf global outside piece names → IsLooseOf global outside piece others → names ≡ others
+one_loose_of global outside (Uses os) names others h k = h ∙ sym k
+one_loose_of global outside (Plain mention) names others h k = h ∙ sym k
+one_loose_of global outside (Part os condition) names others h k =
+    h.2 ∙ (ap (λ within. loose_part within (bound_within global outside within) os condition) (one_bound global condition h.0 k.0 h.1 k.1) ∙ sym k.2)
+
+one_loose_among : (global outside : Names) (pieces : List Piece) (names others : List (List ℕ)) → AreLooseOf global outside pieces names → AreLooseOf global outside pieces others → names ≡ others
+one_loose_among global outside [] names others h k = h ∙ sym k
+one_loose_among global outside (piece ∷ pieces) names others h k =
+    h.4 ∙ (ap₂ (λ x y. x ++ y) (one_loose_of global outside piece h.0 k.0 h.2 k.2) (one_loose_among global outside pieces h.1 k.1 h.3 k.3) ∙ sym k.4)
+
+pub one_loose : (pieces : List Piece) (names others : List (List ℕ)) → AreLoose pieces names → AreLoose pieces others → names ≡ others
+one_loose pieces names others h k =
+    let same = one_bound no_names (flat_map plain_mentions pieces) h.0 k.0 h.1 k.1 in
+    one_loose_among (globals pieces) k.0 pieces names others (subst (λ (outside : Names). AreLooseOf (globals pieces) outside pieces names) same h.2) k.2

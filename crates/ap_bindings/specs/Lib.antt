@@ -1,0 +1,4 @@
+pub mod Texts
+pub mod Bound
+pub mod Searches
+pub mod Unsafe

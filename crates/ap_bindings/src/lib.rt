@@ -1,0 +1,15 @@
+//! Which variables of rules and of elements of preference statements are bound.
+#![tactic(auto)]
+
+mod binding;
+mod globals;
+mod loose;
+mod names;
+mod search;
+mod sources;
+#[cfg(test)]
+mod tests;
+mod unbound;
+
+pub use search::{Failing, earlier};
+pub use sources::unsafe_in;

@@ -1,0 +1,207 @@
+// Rules whose first unbound variable is known.
+use crate::unsafe_in;
+use ap_syntax::{
+    AggElement, Atom, BodyItem, ChoiceElement, Function, Guard, HeadForm, Literal, Rel, Rule,
+    SumOp, Term, Text,
+};
+use sqlite_items::{Boxed, Items};
+use std::alloc::{AllocError, Global};
+use std::test::Fail;
+
+/// A part of a rule. A term is a variable, `_`, or a variable with `+1` behind it; anything else is a constant.
+#[derive(Clone, Copy)]
+enum Part<'a> {
+    Head(&'a [&'a str]),
+    Choice(&'a [&'a str], &'a [&'a str]),
+    Pos(&'a [&'a str]),
+    Not(&'a [&'a str]),
+    Equal(&'a str, &'a str),
+    Less(&'a str, &'a str),
+    All(&'a [&'a str], &'a [&'a str]),
+    Count(&'a str, &'a [&'a str], &'a [&'a str]),
+}
+
+fn term(alloc: Global, text: &str) -> Result<Term, AllocError> {
+    if let Some(name) = text.strip_suffix("+1") {
+        let left = Boxed::new(alloc, Term::Var(Text::new(alloc, name)?))?;
+        return Ok(Term::Sum(left, SumOp::Plus, Boxed::new(alloc, Term::Int(1))?));
+    }
+    if text == "_" {
+        return Ok(Term::Any);
+    }
+    let name = Text::new(alloc, text)?;
+    if text.starts_with(|c: char| c.is_ascii_uppercase()) {
+        Ok(Term::Var(name))
+    } else {
+        Ok(Term::Const(name))
+    }
+}
+
+fn terms(alloc: Global, texts: &[&str]) -> Result<Items<Term>, AllocError> {
+    let mut terms = Items::new(alloc);
+    for text in texts {
+        terms.push(term(alloc, text)?)?;
+    }
+    Ok(terms)
+}
+
+fn atom(alloc: Global, texts: &[&str]) -> Result<Atom, AllocError> {
+    Ok(Atom {
+        name: Text::new(alloc, "p")?,
+        terms: terms(alloc, texts)?,
+    })
+}
+
+fn condition(alloc: Global, texts: &[&str]) -> Result<Items<Literal>, AllocError> {
+    let mut literals = Items::new(alloc);
+    literals.push(Literal::Pos(atom(alloc, texts)?))?;
+    Ok(literals)
+}
+
+fn compare(alloc: Global, left: &str, rel: Rel, right: &str) -> Result<BodyItem, AllocError> {
+    let left = term(alloc, left)?;
+    Ok(BodyItem::Plain(Literal::Compare(left, rel, term(alloc, right)?)))
+}
+
+fn choice(alloc: Global, texts: &[&str], within: &[&str]) -> Result<HeadForm, AllocError> {
+    let mut elements = Items::new(alloc);
+    elements.push(ChoiceElement {
+        atom: atom(alloc, texts)?,
+        condition: condition(alloc, within)?,
+    })?;
+    Ok(HeadForm::Choice {
+        left: None,
+        elements,
+        right: None,
+    })
+}
+
+fn count(
+    alloc: Global,
+    left: &str,
+    texts: &[&str],
+    within: &[&str],
+) -> Result<BodyItem, AllocError> {
+    let mut elements = Items::new(alloc);
+    elements.push(AggElement {
+        terms: terms(alloc, texts)?,
+        condition: condition(alloc, within)?,
+    })?;
+    let left = Some(Guard {
+        rel: Rel::Eq,
+        term: term(alloc, left)?,
+    });
+    Ok(BodyItem::Agg {
+        negated: false,
+        left,
+        function: Function::Count,
+        elements,
+        right: None,
+    })
+}
+
+fn add(alloc: Global, rule: &mut Rule, part: Part<'_>) -> Result<(), AllocError> {
+    let item = match part {
+        Part::Head(texts) => {
+            rule.head = HeadForm::One(atom(alloc, texts)?);
+            return Ok(());
+        }
+        Part::Choice(texts, within) => {
+            rule.head = choice(alloc, texts, within)?;
+            return Ok(());
+        }
+        Part::Pos(texts) => BodyItem::Plain(Literal::Pos(atom(alloc, texts)?)),
+        Part::Not(texts) => BodyItem::Plain(Literal::Not(atom(alloc, texts)?)),
+        Part::Equal(left, right) => compare(alloc, left, Rel::Eq, right)?,
+        Part::Less(left, right) => compare(alloc, left, Rel::Lt, right)?,
+        Part::All(texts, within) => {
+            BodyItem::All {
+                at: 0,
+                literal: Literal::Pos(atom(alloc, texts)?),
+                condition: condition(alloc, within)?,
+            }
+        }
+        Part::Count(left, texts, within) => count(alloc, left, texts, within)?,
+    };
+    rule.body.push(item)
+}
+
+fn rule(alloc: Global, at: u32, parts: &[Part<'_>]) -> Result<Rule, AllocError> {
+    let mut rule = Rule {
+        file: 1,
+        at,
+        head: HeadForm::Nothing,
+        body: Items::new(alloc),
+    };
+    for part in parts {
+        add(alloc, &mut rule, *part)?;
+    }
+    Ok(rule)
+}
+
+/// The first unbound variable of each rule, or `safe`.
+#[test]
+fn first_unbound_variables(rt: HostRuntime) -> Result<(), Fail> {
+    let alloc = rt.alloc();
+    let table: [(&[Part<'_>], &str); 19] = [
+        (&[Part::Head(&["X"]), Part::Not(&["X"])], "X"),
+        (&[Part::Head(&["X"]), Part::Pos(&["Y", "X"])], "safe"),
+        (&[Part::Not(&["_"])], "_"),
+        (&[Part::Pos(&["_"])], "safe"),
+        (&[Part::Equal("X", "Y"), Part::Equal("Y", "X")], "X"),
+        (&[Part::Equal("_", "a")], "safe"),
+        (&[Part::Equal("_", "_")], "_"),
+        (&[Part::Pos(&["Y"]), Part::Equal("X", "Y+1")], "safe"),
+        (
+            &[
+                Part::Equal("Z", "X+1"),
+                Part::Equal("Y+1", "X"),
+                Part::Pos(&["Y"]),
+            ],
+            "safe",
+        ),
+        (&[Part::Pos(&["X"]), Part::Equal("X", "Y+1")], "Y"),
+        (&[Part::Pos(&["X+1"])], "X"),
+        (&[Part::Pos(&["X"]), Part::Less("X", "Y")], "Y"),
+        (&[Part::Count("N", &["X"], &["X"])], "N"),
+        (
+            &[Part::Pos(&["N"]), Part::Count("N", &["X", "Y"], &["X"])],
+            "Y",
+        ),
+        (&[Part::All(&["X"], &["X"])], "safe"),
+        (&[Part::All(&["X"], &["Y"])], "X"),
+        (&[Part::All(&["X"], &["X"]), Part::Not(&["X"])], "X"),
+        (
+            &[Part::Choice(&["X", "Y"], &["X"]), Part::Pos(&["Y"])],
+            "safe",
+        ),
+        (&[Part::Choice(&["X", "Y"], &["X"]), Part::Not(&["Y"])], "Y"),
+    ];
+    for (parts, expected) in table {
+        let mut rules = Vec::new(alloc);
+        rules.push(rule(alloc, 0, parts)?)?;
+        match unsafe_in(alloc, rules.as_slice(), &[])? {
+            Some(failing) => assert_eq!(rt; failing.what.as_str(), expected),
+            None => assert_eq!(rt; "safe", expected),
+        }
+    }
+    Ok(())
+}
+
+/// The first in the texts is not the first in the list.
+#[test]
+fn first_in_the_texts(rt: HostRuntime) -> Result<(), Fail> {
+    let alloc = rt.alloc();
+    let mut rules = Vec::new(alloc);
+    rules.push(rule(alloc, 40, &[Part::Head(&["X"])])?)?;
+    rules.push(rule(alloc, 9, &[Part::Pos(&["Z"])])?)?;
+    rules.push(rule(alloc, 20, &[Part::Head(&["Y"])])?)?;
+    match unsafe_in(alloc, rules.as_slice(), &[])? {
+        Some(failing) => {
+            assert_eq!(rt; failing.at, 20);
+            assert_eq!(rt; failing.what.as_str(), "Y");
+        }
+        None => assert!(rt; false),
+    }
+    Ok(())
+}

@@ -1,0 +1,3 @@
+mod TermLemmas
+mod PieceLemmas
+mod FormulaLemmas

@@ -1,0 +1,3 @@
+pub mod Variables
+pub mod Placed
+pub mod Pieces
