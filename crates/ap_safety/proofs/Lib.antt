@@ -1,0 +1,11 @@
+pub mod WalkLemmas
+pub mod GraphLemmas
+pub mod MemberLemmas
+pub mod PlaceLemmas
+pub mod RowLemmas
+pub mod EdgeLemmas
+pub mod DependLemmas
+pub mod LeadLemmas
+pub mod TellLemmas
+pub mod JudgeLemmas
+pub mod FaultLemmas

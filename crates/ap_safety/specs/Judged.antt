@@ -1,0 +1,44 @@
+-- What is computed of rules: the table of their predicates, the numbers of the graph's components, and which nodes lead to one
+-- that is not decided.
+use Rattle.std.specs.Prelude.{ℕ, Bool, ◌&&◌, ◌==◌, nat_lt, if◌then◌else◌, List, [], ◌∷◌, ◌++◌, map, flat_map, length, Contains, IsTrue, ◌↔◌}
+use Rattle.ap_syntax.specs.declared.rules.Rule.{Rule}
+use Rattle.definite.specs.declared.Rule.{Rule as Derivation}
+use Rattle.definite.specs.Rules.{marked}
+use Rattle.ap_safety.specs.declared.pred.Pred.{Pred}
+use Rattle.ap_safety.specs.declared.graph.Edge.{Edge}
+use Rattle.ap_safety.specs.Walks.{Leads}
+use Rattle.ap_safety.specs.Predicates.{choice_preds}
+use Rattle.ap_safety.specs.Components.{is_open_name}
+use Rattle.ap_safety.specs.Graphs.{HasEdge, number_of}
+
+-- ---- nodes of predicates that are not decided
+
+-- the end from which an edge leads, if this is a predicate and the edge stays in its component
+abbrev pub inner_nodes : ℕ → List ℕ → Edge → List ℕ
+inner_nodes preds numbers e = if nat_lt e.from preds && (number_of numbers e.from == number_of numbers e.to) then e.from ∷ [] else []
+
+abbrev pub choice_nodes : (Pred → ℕ) → Rule → List ℕ
+choice_nodes number rule = map number (choice_preds rule.head)
+
+abbrev pub open_nodes : (Pred → ℕ) → Pred → List ℕ
+open_nodes number p = if is_open_name p.name then number p ∷ [] else []
+
+abbrev pub open_nodes_of : Bool → (Pred → ℕ) → List Pred → List ℕ
+open_nodes_of base number keys = if base then [] else flat_map (open_nodes number) keys
+
+abbrev pub undecided_nodes : Bool → (Pred → ℕ) → List Pred → List ℕ → List Edge → List Rule → List ℕ
+undecided_nodes base number keys numbers edges rules =
+    flat_map (inner_nodes (length keys) numbers) edges ++ flat_map (choice_nodes number) rules ++ open_nodes_of base number keys
+
+-- ---- nodes that lead to one of these
+
+-- the rules by which a mark goes against the edges
+abbrev pub edge_rule : Edge → Derivation
+edge_rule e = record { body = e.to ∷ []; heads = e.from ∷ [] }
+
+abbrev pub fact_rule : ℕ → Derivation
+fact_rule node = record { body = []; heads = node ∷ [] }
+
+-- the marks are those of the nodes that lead to one of these
+abbrev pub AreLeading : List Edge → List ℕ → List Bool → Type 0
+AreLeading edges nodes marks = (a : ℕ) → IsTrue (marked marks a) ↔ ((f : ℕ) × Contains nodes f × Leads (HasEdge edges) a f)

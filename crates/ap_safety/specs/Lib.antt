@@ -1,0 +1,9 @@
+pub mod Walks
+pub mod Predicates
+pub mod Tables
+pub mod Graphs
+pub mod Components
+pub mod Judged
+pub mod Conditions
+pub mod Answers
+pub mod Tests

@@ -1,0 +1,98 @@
+// The static conditions.
+ghost use Rattle.ap_bindings.specs.Texts.{NoneFails};
+ghost use Rattle.ap_safety.specs.Conditions.{HasAggregateFault};
+ghost use Rattle.ap_safety.specs.Answers.{IsCheckAnswer, IsRecursionAnswer, IsDomainAnswer, IsSafe, IsJudged};
+
+use crate::conditions::RuleFault;
+use crate::domains::first_indefinite;
+use crate::fault::{DomainFault, SafetyFault};
+use crate::faults::first_fault;
+use crate::judging::judge;
+use crate::safe::Safe;
+use ap_bindings::unsafe_in;
+use ap_syntax::{Preference, Rule};
+use std::alloc::Global;
+
+/// Checks that no rule goes through its own head, where no aggregate does.
+fn check_heads(alloc: Global, rules: &[Rule], safe: Safe) -> Result<Safe, SafetyFault>
+    requires judged { IsJudged rules.now safe }
+    requires aggregates { NoneFails (HasAggregateFault safe.base rules.now) rules.now }
+    ensures { IsRecursionAnswer rules.now safe.base result }
+{
+    let Ok(recursion) = first_fault(alloc, RuleFault::Recursion, &safe, rules) else {
+        return Err(SafetyFault::Memory);
+    };
+    match recursion {
+        Some(found) => Err(SafetyFault::Recursion {
+            file: found.file,
+            at: found.at,
+        }),
+        None => Ok(safe),
+    }
+}
+
+/// Checks that no rule goes through its own head in a way that its program may not.
+fn check_recursion(alloc: Global, rules: &[Rule], base: bool) -> Result<Safe, SafetyFault>
+    ensures { IsRecursionAnswer rules.now base result }
+{
+    let Ok(safe) = judge(alloc, rules, base) else {
+        return Err(SafetyFault::Memory);
+    };
+    let Ok(aggregate) = first_fault(alloc, RuleFault::Aggregate, &safe, rules) else {
+        return Err(SafetyFault::Memory);
+    };
+    match aggregate {
+        Some(found) => Err(SafetyFault::AggregateRecursion {
+            file: found.file,
+            at: found.at,
+        }),
+        None => check_heads(alloc, rules, safe),
+    }
+}
+
+/// Checks that all variables are bound, and that no rule goes through its own head in a way that its program may not.
+/// `base` tells whether the rules are those of a base program or those of a type's program. The faults come in this order, each
+/// of them for the first rule or element in the texts: `Unsafe`, `AggregateRecursion`, `Recursion`. `Memory` may come at any time.
+pub fn check(
+    alloc: Global,
+    rules: &[Rule],
+    elements: &[Preference],
+    base: bool,
+) -> Result<Safe, SafetyFault>
+    ensures { IsCheckAnswer rules.now elements.now base result }
+{
+    let Ok(unbound) = unsafe_in(alloc, rules, elements) else {
+        return Err(SafetyFault::Memory);
+    };
+    match unbound {
+        Some(found) => Err(SafetyFault::Unsafe {
+            file: found.file,
+            at: found.at,
+            variable: found.what,
+        }),
+        None => check_recursion(alloc, rules, base),
+    }
+}
+
+/// Checks that the conditions of conditional literals and the `:` parts of elements have definite predicates only, for `safe` as
+/// `check` answered it for these rules. `NotDomain` names the first in the texts that has another.
+pub fn domain(
+    alloc: Global,
+    rules: &[Rule],
+    elements: &[Preference],
+    safe: &Safe,
+) -> Result<(), DomainFault>
+    requires known { IsSafe rules.now safe.now }
+    ensures { IsDomainAnswer rules.now elements.now safe.now.base result }
+{
+    let Ok(indefinite) = first_indefinite(alloc, safe, rules, elements) else {
+        return Err(DomainFault::Memory);
+    };
+    match indefinite {
+        Some(found) => Err(DomainFault::NotDomain {
+            file: found.file,
+            at: found.at,
+        }),
+        None => Ok(()),
+    }
+}
