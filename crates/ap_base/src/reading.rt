@@ -1,5 +1,5 @@
 // Reading named inputs to their ends, within a limit on their bytes.
-ghost use Rattle.std.specs.Prelude.{◌≡◌, ◌≤◌, length, vec_len, Some, IsTrue, IfOk, IfErr, OnOk};
+ghost use Rattle.std.specs.Prelude.{◌≡◌, ◌≤◌, All, length, vec_len, Some, IsTrue, IfOk, IfErr, OnOk};
 ghost use Rattle.ap_base.specs.Counts.{counted};
 ghost use Rattle.ap_base.specs.Inputs.{find_input, is_held};
 ghost use Rattle.ap_base.specs.Readings.{AllHeld, AllRead, reading_of, texts_of, bytes_of};
@@ -77,6 +77,8 @@ pub fn read_all<S: Source>(
 ) -> Result<Vec<Vec<u8>>, ReadFault>
     ensures all { IsTrue S.tells → IfOk result (λ files.
         reading_of (S.held src.old) (texts_of names.now) MAX_BYTES ≡ AllRead (bytes_of files.items)) }
+    ensures count { IfOk result (λ files. length files.items ≡ length names.now) }
+    ensures sizes { IfOk result (λ files. All (λ file. length file.items ≤ MAX_BYTES) files.items) }
     ensures kept { OnOk result (S.faults src.new ≡ S.faults src.old) }
     ensures opens { OnOk result (S.opens src.new ≡ counted (S.opens src.old) (length names.now)) }
     ensures most_opens { S.opens src.new ≤ counted (S.opens src.old) (length names.now) }

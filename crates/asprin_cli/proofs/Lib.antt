@@ -1,2 +1,4 @@
+pub mod Naming
 pub mod Printing
+pub mod Showing
 pub mod Stopping

@@ -1,8 +1,8 @@
 -- The lines of a listing, one after the other.
-use Rattle.std.proofs.Common.{◌≡◌, ℕ, suc, ◌+◌, ◌<◌, List, [], ◌∷◌, ◌++◌, length, drop, get_or, refl, ap, sym, ◌∙◌, arith, append_assoc, append-nil, add-one, drop-cons}
+use Rattle.std.proofs.Common.{◌≡◌, ℕ, suc, ◌+◌, ◌<◌, List, ◌∷◌, ◌++◌, length, drop, get_or, ap, sym, ◌∙◌, append_assoc, add-one, drop-cons}
 use Rattle.std.specs.Io.{StartsWith}
 use Rattle.ap_base.specs.Fronts.{TookFront}
-use Rattle.ap_base.proofs.FrontLemmas.{front_behind, starts_append, starts_more, starts_trans}
+use Rattle.ap_base.proofs.FrontLemmas.{starts_more, starts_trans}
 use Rattle.asprin_cli.specs.Lines.{numbered}
 
 -- what is left at a place, one by one

@@ -1,16 +1,15 @@
 -- What is printed where a run ends before its listing.
-use Rattle.std.proofs.Common.{◌≡◌, ℕ, ◌+◌, ◌≤◌, Bool, true, false, IsTrue, List, [], ◌++◌, length, take, refl, ap, sym, ◌∙◌, arith, append-nil, inl, inr}
+use Rattle.std.proofs.Common.{◌≡◌, ℕ, Bool, true, false, IsTrue, List, [], ◌++◌, length, take, refl, ap, sym, ◌∙◌, arith, append-nil, inl, inr}
 use Rattle.std.proofs.Math.Seq.{take-length}
 use Rattle.std.proofs.lemmas.List.{length-take}
-use Rattle.std.specs.Io.{StartsWith}
 use Rattle.ap_base.specs.Fronts.{TookFront}
 use Rattle.ap_base.specs.declared.status.Status.{Status}
-use Rattle.ap_base.specs.declared.status.Status.TheVariants as status
-use Rattle.asprin_cli.specs.Given.{Given}
+use Rattle.ap_base.specs.Inputs.{Input}
+use Rattle.asprin_cli.specs.Given.{given_by}
 use Rattle.asprin_cli.specs.Given as given
 use Rattle.asprin_cli.specs.Lines.{is_cut}
-use Rattle.asprin_cli.specs.Outcomes.{MayEnd, Reads, TextEnds, TookPart, TookSome, TookWhole}
-use Rattle.asprin_cli.specs.Stops.{ReadStop, TextStop, stop_line, stop_status}
+use Rattle.asprin_cli.specs.Outcomes.{MayEnd, Reads, TextsEnd, TookPart, TookWhole}
+use Rattle.asprin_cli.specs.Stops.{ReadStop, TextsStop, stop_line, stop_status}
 use Rattle.asprin_cli.specs.declared.end.End.TheVariants as ends
 use Rattle.asprin_cli.specs.declared.stop.Stop.{Stop}
 use Rattle.asprin_cli.specs.declared.stop.Stop.TheVariants.{Source, Refused, Memory}
@@ -26,44 +25,44 @@ front_of_none old new front =
     let same : length old ≡ length new = omega (arith, length-take (length new) old, length-take (length old) new) in
     sym (take-length new) ∙ ap (λ n. take n new) (sym same) ∙ long
 
--- the line of a stop at a text was taken
-pub text_stop_whole : (text : List ℕ) (stop : Stop) (status : Status) (old new : List ℕ) → TextStop text stop
-    → is_cut status ≡ false → status ≡ stop_status stop → new ≡ old ++ stop_line stop → TookWhole (TextEnds text) status old new
-text_stop_whole text (Source opened) s old new stop whole named after = elim stop [ ]
-text_stop_whole text (Refused refusal) s old new stop whole named after =
-    record { sets = []; end = ends.Refused refusal; may = stop; named = named; text = after }
-text_stop_whole text Memory s old new stop whole named after =
+-- the line of a stop at texts was taken
+pub texts_stop_whole : (files : List (List ℕ)) (stop : Stop) (status : Status) (old new : List ℕ) → TextsStop files stop
+    → is_cut status ≡ false → status ≡ stop_status stop → new ≡ old ++ stop_line stop → TookWhole (TextsEnd files) status old new
+texts_stop_whole files (Source opened) s old new stop whole named after = elim stop [ ]
+texts_stop_whole files (Refused refusal) s old new stop whole named after =
+    record { printed = []; end = ends.Refused refusal; may = (refl, stop); named = named; text = after }
+texts_stop_whole files Memory s old new stop whole named after =
     let cut : true ≡ false = rw named at whole in cc
 
 -- a front of it was taken
-pub text_stop_part : (text : List ℕ) (stop : Stop) (old new : List ℕ) → TextStop text stop
-    → TookFront old new (stop_line stop) → TookPart (TextEnds text) old new
-text_stop_part text (Source opened) old new stop front = elim stop [ ]
-text_stop_part text (Refused refusal) old new stop front =
-    inr (record { sets = []; end = ends.Refused refusal; may = stop; text = front })
-text_stop_part text Memory old new stop front = inl (front_of_none old new front)
+pub texts_stop_part : (files : List (List ℕ)) (stop : Stop) (old new : List ℕ) → TextsStop files stop
+    → TookFront old new (stop_line stop) → TookPart (TextsEnd files) old new
+texts_stop_part files (Source opened) old new stop front = elim stop [ ]
+texts_stop_part files (Refused refusal) old new stop front =
+    inr (record { printed = []; end = ends.Refused refusal; may = (refl, stop); text = front })
+texts_stop_part files Memory old new stop front = inl (front_of_none old new front)
 
-module _ (input : Given) (read : Reads) (tells : Bool) (told : IsTrue tells) where
-  -- the way to end that a stop before the text is
+module _ (words : List (List ℕ)) (held : List Input) (read : Reads) (tells : Bool) (told : IsTrue tells) where
+  -- the way to end that a stop before the texts is
   abbrev May : Stop → Type 0
-  May stop = ReadStop tells input read.faults_before read.faults_now read.opens_before read.opens_now stop
+  May stop = ReadStop tells words held read.faults_before read.faults_now read.opens_before read.opens_now stop
 
-  refused_ends : (refusal : _) → input ≡ given.Refused refusal → read.faults_now ≡ read.faults_before → MayEnd input read [] (ends.Refused refusal)
+  refused_ends : (refusal : _) → given_by words held ≡ given.Refused refusal → read.faults_now ≡ read.faults_before → MayEnd words held read [] (ends.Refused refusal)
   refused_ends refusal is kept = rw is (kept, (refl, refl))
 
   pub read_stop_whole : (stop : Stop) (status : Status) (old new : List ℕ) → May stop
-      → is_cut status ≡ false → status ≡ stop_status stop → new ≡ old ++ stop_line stop → TookWhole (MayEnd input read) status old new
+      → is_cut status ≡ false → status ≡ stop_status stop → new ≡ old ++ stop_line stop → TookWhole (MayEnd words held read) status old new
   read_stop_whole (Source opened) s old new stop whole named after =
-      record { sets = []; end = ends.Source opened; may = (refl, stop.0, stop.1); named = named; text = after }
+      record { printed = []; end = ends.Source opened; may = (refl, stop.0 told, stop.1); named = named; text = after }
   read_stop_whole (Refused refusal) s old new stop whole named after =
-      record { sets = []; end = ends.Refused refusal; may = refused_ends refusal (stop.1 told) stop.0; named = named; text = after }
+      record { printed = []; end = ends.Refused refusal; may = refused_ends refusal (stop.1 told) stop.0; named = named; text = after }
   read_stop_whole Memory s old new stop whole named after =
       let cut : true ≡ false = rw named at whole in cc
 
   pub read_stop_part : (stop : Stop) (old new : List ℕ) → May stop
-      → TookFront old new (stop_line stop) → TookPart (MayEnd input read) old new
+      → TookFront old new (stop_line stop) → TookPart (MayEnd words held read) old new
   read_stop_part (Source opened) old new stop front =
-      inr (record { sets = []; end = ends.Source opened; may = (refl, stop.0, stop.1); text = front })
+      inr (record { printed = []; end = ends.Source opened; may = (refl, stop.0 told, stop.1); text = front })
   read_stop_part (Refused refusal) old new stop front =
-      inr (record { sets = []; end = ends.Refused refusal; may = refused_ends refusal (stop.1 told) stop.0; text = front })
+      inr (record { printed = []; end = ends.Refused refusal; may = refused_ends refusal (stop.1 told) stop.0; text = front })
   read_stop_part Memory old new stop front = inl (front_of_none old new front)

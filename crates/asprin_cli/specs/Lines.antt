@@ -4,23 +4,44 @@ use Rattle.std.specs.List.{flat_map}
 use Rattle.std.specs.Fmt.{decimal}
 use Rattle.ap_base.specs.declared.status.Status.{Status}
 use Rattle.ap_base.specs.declared.status.Status.TheVariants as status
+use Rattle.ap_lexemes.specs.Constructs.{name_of}
+use Rattle.ap_lexemes.specs.declared.limit.Limit as limits
+use Rattle.ap_lexemes.specs.declared.limit.Limit.TheVariants as limit
 use Rattle.asprin_cli.specs.declared.end.End.{End}
 use Rattle.asprin_cli.specs.declared.end.End.TheVariants.{Source, Refused, Unsatisfiable, NoOptimum, Done}
 use Rattle.asprin_cli.specs.declared.end.Refusal.{Refusal}
-use Rattle.asprin_cli.specs.declared.end.Refusal.TheVariants.{Usage, Bytes, Syntax, Trial}
+use Rattle.asprin_cli.specs.declared.end.Refusal.TheVariants.{Usage, Bytes, Syntax, Unsupported, Limit, Later, ConstTwice, Trial}
+
+-- a place, and what stands behind it: the number of a file, from 1, and a byte, from 0
+abbrev pub placed : (file at : ℕ) → List ℕ → List ℕ
+placed file at rest = decimal file ++ (codes ":" ++ (decimal at ++ rest))
+
+-- a limit of a text, with its number
+abbrev pub limit_text : limits.Limit → List ℕ
+limit_text limit.Nesting = codes "nesting 32"
+limit_text limit.Arity = codes "arity 32"
+limit_text limit.Formula = codes "formula 64"
 
 -- the last line of a refusal
 abbrev pub refusal_line : Refusal → List ℕ
 refusal_line Usage = codes "USAGE\n"
 refusal_line Bytes = codes "LIMIT bytes 16777216\n"
-refusal_line Syntax = codes "SYNTAX\n"
+refusal_line (Syntax file at) = codes "SYNTAX " ++ placed file at (codes "\n")
+refusal_line (Unsupported file at construct) = codes "UNSUPPORTED " ++ placed file at (codes " " ++ name_of construct ++ codes "\n")
+refusal_line (Limit which) = codes "LIMIT " ++ limit_text which ++ codes "\n"
+refusal_line (Later file at) = codes "UNSUPPORTED " ++ placed file at (codes " later\n")
+refusal_line (ConstTwice file at) = codes "NAMING " ++ placed file at (codes " const\n")
 refusal_line Trial = codes "LIMIT trial 12\n"
 
 -- the status that it names
 abbrev pub refusal_status : Refusal → Status
 refusal_status Usage = status.Usage
 refusal_status Bytes = status.Limit
-refusal_status Syntax = status.Syntax
+refusal_status (Syntax file at) = status.Syntax
+refusal_status (Unsupported file at construct) = status.Unsupported
+refusal_status (Limit which) = status.Limit
+refusal_status (Later file at) = status.Unsupported
+refusal_status (ConstTwice file at) = status.Naming
 refusal_status Trial = status.Limit
 
 -- the last line of a run
@@ -52,7 +73,7 @@ abbrev pub numbered : {A : Type 0} → (ℕ → A → List ℕ) → ℕ → List
 numbered line number [] = []
 numbered line number (x ∷ xs) = line number x ++ numbered line (number + 1) xs
 
--- what a run prints that lists these sets and ends so
+-- what a run prints that lists sets with these atoms and ends so
 abbrev pub text_of : List (List (List ℕ)) → End → List ℕ
 text_of sets end = numbered set_line 1 sets ++ line_of end
 

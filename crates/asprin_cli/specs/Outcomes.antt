@@ -1,22 +1,32 @@
--- What a run may list, and how it may end. Where the inputs are told and no count of faults rises (nor stands at its end),
+-- What a run may print, and how it may end. Where the inputs are told and no count of faults rises (nor stands at its end),
 -- there is one outcome.
-use Rattle.std.specs.Prelude.{◌≡◌, ◌⊎◌, ℕ, ◌<◌, ◌≤◌, List, [], ◌++◌, length}
+use Rattle.std.specs.Prelude.{◌≡◌, ◌⊎◌, ℕ, ◌-◌, ◌<◌, ◌≤◌, IsTrue, List, [], ◌++◌, length, map, take, None, Some}
+use Rattle.std.specs.List.{filter}
 use Rattle.ap_base.specs.Fronts.{TookFront}
+use Rattle.ap_base.specs.Inputs.{Input}
 use Rattle.ap_base.specs.ReadFaults.{FailedAt}
+use Rattle.ap_base.specs.Readings.{is_whole, reading_of}
 use Rattle.ap_base.specs.declared.status.Status.{Status}
 use Rattle.ap_eval.specs.AnswerSets.{IsAnswerSet}
 use Rattle.ap_eval.specs.AtomSets.{AtomSet}
-use Rattle.small_parse.specs.Language.{InLanguage}
+use Rattle.ap_lexemes.specs.declared.fault.ParseFault.TheVariants as fault
+use Rattle.ap_syntax.specs.declared.programs.Statement.{Statement}
 use Rattle.ap_syntax.specs.declared.small.Program.{Program}
+use Rattle.small_front.specs.Accepts.{AreAccepted}
+use Rattle.small_front.specs.Files.{AreRead, FirstFault}
+use Rattle.small_front.specs.Forms.{small_of}
+use Rattle.small_front.specs.Later.{first_later, place, second_const}
+use Rattle.small_front.specs.Shows.{is_shown}
 use Rattle.small_optima.specs.Atoms.{atom_count}
 use Rattle.asprin_cli.specs.Given as given
-use Rattle.asprin_cli.specs.Given.{Given}
+use Rattle.asprin_cli.specs.Given.{Given, given_by}
+use Rattle.asprin_cli.specs.Words.{asks_for}
 use Rattle.asprin_cli.specs.Lines.{status_of, text_of}
 use Rattle.small_optima.specs.Optimal.{IsSortedListing}
 use Rattle.asprin_cli.specs.declared.end.End.{End}
 use Rattle.asprin_cli.specs.declared.end.End.TheVariants.{Source, Refused, Unsatisfiable, NoOptimum, Done}
 use Rattle.asprin_cli.specs.declared.end.Refusal.{Refusal}
-use Rattle.asprin_cli.specs.declared.end.Refusal.TheVariants.{Usage, Bytes, Syntax, Trial}
+use Rattle.asprin_cli.specs.declared.end.Refusal.TheVariants.{Usage, Bytes, Syntax, Unsupported, Limit, Later, ConstTwice, Trial}
 
 -- The listing of an accepted program: DONE where it has an optimal set, NO OPTIMUM where it has answer sets and none is
 -- optimal, UNSATISFIABLE where it has no answer set.
@@ -27,17 +37,42 @@ ListsOptima p sets Unsatisfiable = (sets ≡ []) × ((x : AtomSet) → IsAnswerS
 ListsOptima p sets (Source opened) = ⊥
 ListsOptima p sets (Refused refusal) = ⊥
 
--- SYNTAX where the text is outside the language, the limit of the trial where its rules have more than 12 atoms, and
--- else the listing
-abbrev pub TextEnds : List ℕ → List (List (List ℕ)) → End → Type 0
-TextEnds text sets (Refused Syntax) = (sets ≡ []) × ((p : Program) → InLanguage text p → ⊥)
-TextEnds text sets (Refused Trial) = (sets ≡ []) × ((p : Program) × InLanguage text p × (12 < atom_count p))
-TextEnds text sets end = (p : Program) × InLanguage text p × (atom_count p ≤ 12) × ListsOptima p sets end
+-- When each refusal of texts comes, in this order: SYNTAX, UNSUPPORTED and the limits of a text where this is the first fault
+-- of the files; what is not of the small language; a constant that is declared twice; more than 12 atoms in the rules.
+abbrev pub AreRefused : List (List ℕ) → Refusal → Type 0
+AreRefused files (Syntax file at) = FirstFault 1 files file (fault.Syntax at)
+AreRefused files (Unsupported file at construct) = FirstFault 1 files file (fault.Unsupported construct at)
+AreRefused files (Limit which) = (file : ℕ) × (at : ℕ) × FirstFault 1 files file (fault.Limit which at)
+AreRefused files (Later file at) = (ss : List Statement) × AreRead 1 files ss × (first_later ss ≡ Some (place file at))
+AreRefused files (ConstTwice file at) =
+    (ss : List Statement) × AreRead 1 files ss × (first_later ss ≡ None) × (second_const ss ≡ Some (place file at))
+AreRefused files Trial = (ss : List Statement) × AreAccepted files ss × (12 < atom_count (small_of ss))
+AreRefused files Usage = ⊥
+AreRefused files Bytes = ⊥
+
+-- the atoms of a set that some statements show
+abbrev pub shown_of : List Statement → List (List ℕ) → List (List ℕ)
+shown_of ss set = filter (is_shown ss) set
+
+-- The listing of texts that are not refused: it has all atoms of its sets, of which those that are shown are printed. So two
+-- sets may print equal atoms, and each of them counts.
+pub record ListsShown (files : List (List ℕ)) (printed : List (List (List ℕ))) (end : End) : Type 0 where
+  pub statements : List Statement
+  pub accepted : AreAccepted files statements
+  pub few : atom_count (small_of statements) ≤ 12
+  pub sets : List (List (List ℕ))
+  pub listed : ListsOptima (small_of statements) sets end
+  pub shown : printed ≡ map (shown_of statements) sets
+
+-- the texts of the files print these atoms for each set, and end so
+abbrev pub TextsEnd : List (List ℕ) → List (List (List ℕ)) → End → Type 0
+TextsEnd files printed (Refused refusal) = (printed ≡ []) × AreRefused files refusal
+TextsEnd files printed end = ListsShown files printed end
 
 abbrev pub GivenEnds : Given → List (List (List ℕ)) → End → Type 0
-GivenEnds (given.Refused refusal) sets end = (sets ≡ []) × (end ≡ Refused refusal)
-GivenEnds (given.Text text) sets end = TextEnds text sets end
-GivenEnds given.Unread sets end = ⊥
+GivenEnds (given.Refused refusal) printed end = (printed ≡ []) × (end ≡ Refused refusal)
+GivenEnds (given.Texts files) printed end = TextsEnd files printed end
+GivenEnds given.Unread printed end = ⊥
 
 -- what a call did with the source: its counts of faults and of opens, before and after
 pub record Reads : Type 0 where
@@ -50,34 +85,32 @@ abbrev pub reads : (faults_before faults_now opens_before opens_now : ℕ) → R
 reads faults_before faults_now opens_before opens_now =
     record { faults_before = faults_before; faults_now = faults_now; opens_before = opens_before; opens_now = opens_now }
 
--- words that are refused open nothing
-abbrev pub MayOpen : Given → Type 0
-MayOpen (given.Refused Usage) = ⊥
-MayOpen (given.Refused refusal) = Unit {0}
-MayOpen (given.Text text) = Unit {0}
-MayOpen given.Unread = Unit {0}
+-- The source may fail at an input of this number, counted from 1: the words ask for so many, and those before it are held and within
+-- the limit of bytes. Words that are refused ask for nothing.
+abbrev pub MayFail : List (List ℕ) → List Input → ℕ → Type 0
+MayFail words held number = (0 < number) × (number ≤ length (asks_for words)) × IsTrue (is_whole (reading_of held (take (number - 1) (asks_for words)) 16777216))
 
--- A run may list these and end so, where words and inputs come to this and the source did that. SOURCE has the number of
--- opens, and comes with a fault alone; every other end comes without one.
-abbrev pub MayEnd : Given → Reads → List (List (List ℕ)) → End → Type 0
-MayEnd input read sets (Source opened) =
-    (sets ≡ []) × MayOpen input × FailedAt opened read.faults_before read.faults_now read.opens_before read.opens_now
-MayEnd input read sets end = (read.faults_now ≡ read.faults_before) × GivenEnds input sets end
+-- A run may print these atoms for each set and end so, with these words and inputs, where the source did that. SOURCE has the number of
+-- the input that failed, which is the last that was opened, and comes with a fault alone; every other end comes without one.
+abbrev pub MayEnd : List (List ℕ) → List Input → Reads → List (List (List ℕ)) → End → Type 0
+MayEnd words held read printed (Source opened) =
+    (printed ≡ []) × MayFail words held opened × FailedAt opened read.faults_before read.faults_now read.opens_before read.opens_now
+MayEnd words held read printed end = (read.faults_now ≡ read.faults_before) × GivenEnds (given_by words held) printed end
 
 -- the whole text of an outcome was taken, and this is its status
 pub record TookWhole (May : List (List (List ℕ)) → End → Type 0) (status : Status) (old new : List ℕ) : Type 0 where
-  pub sets : List (List (List ℕ))
+  pub printed : List (List (List ℕ))
   pub end : End
-  pub may : May sets end
+  pub may : May printed end
   pub named : status ≡ status_of end
-  pub text : new ≡ old ++ text_of sets end
+  pub text : new ≡ old ++ text_of printed end
 
 -- a front of the text of an outcome was taken
 pub record TookSome (May : List (List (List ℕ)) → End → Type 0) (old new : List ℕ) : Type 0 where
-  pub sets : List (List (List ℕ))
+  pub printed : List (List (List ℕ))
   pub end : End
-  pub may : May sets end
-  pub text : TookFront old new (text_of sets end)
+  pub may : May printed end
+  pub text : TookFront old new (text_of printed end)
 
 -- nothing was taken, or a front of the text of an outcome
 abbrev pub TookPart : (List (List (List ℕ)) → End → Type 0) → List ℕ → List ℕ → Type 0

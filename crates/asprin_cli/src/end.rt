@@ -3,17 +3,49 @@ ghost use Rattle.std.specs.Prelude.{◌≡◌, IfOk, string_bytes};
 ghost use Rattle.asprin_cli.specs.Lines.{line_of, refusal_line, refusal_status, status_of};
 
 use ap_base::Status;
+use ap_lexemes::{Construct, Limit};
 use std::alloc::{AllocError, Global};
 
-/// What is wrong with the words and the input, in the order in which it is looked for.
+/// What is wrong with the words and the input, in the order in which it is looked for. Files are numbered from 1, and their bytes
+/// from 0.
 #[derive(Clone, Copy, Debug, PartialEq, Eq)]
 pub enum Refusal {
-    /// The words are not of the form `--sorted -n 0 FILE`.
+    /// The words are not of the form `--sorted -n 0 FILE..`, with at most 10,000 files.
     Usage,
-    /// The file has more than 16,777,216 bytes.
+    /// The files have more than 16,777,216 bytes together.
     Bytes,
-    /// The text is not in the language.
-    Syntax,
+    /// The file is the first that is no text of the grammar: none goes on so at this byte.
+    Syntax {
+        /// The number of the file.
+        file: u32,
+        /// The byte.
+        at: u32,
+    },
+    /// The same, and a construct begins there that is not supported.
+    Unsupported {
+        /// The number of the file.
+        file: u32,
+        /// The byte.
+        at: u32,
+        /// The construct.
+        construct: Construct,
+    },
+    /// The first file that is no text of the grammar goes beyond this limit.
+    Limit(Limit),
+    /// The statement is the first that is not of the small language.
+    Later {
+        /// The number of the file.
+        file: u32,
+        /// The byte at which the statement begins.
+        at: u32,
+    },
+    /// The statement is the first `#const` of a name that has one before it.
+    ConstTwice {
+        /// The number of the file.
+        file: u32,
+        /// The byte at which the statement begins.
+        at: u32,
+    },
     /// The rules have more than 12 atoms.
     Trial,
 }
@@ -32,24 +64,47 @@ pub enum End {
     Done(usize),
 }
 
+fn limit_line(alloc: Global, which: Limit) -> Result<String, AllocError>
+    ensures { IfOk result (λ line. string_bytes line ≡ refusal_line (Refusal.Limit which)) }
+{
+    match which {
+        Limit::Nesting => format!(in alloc; "LIMIT nesting 32\n"),
+        Limit::Arity => format!(in alloc; "LIMIT arity 32\n"),
+        Limit::Formula => format!(in alloc; "LIMIT formula 64\n"),
+    }
+}
+
 impl Refusal {
     fn status(&self) -> Status
         ensures { result ≡ refusal_status self.now }
     {
         match self {
             Refusal::Usage => Status::Usage,
-            Refusal::Bytes | Refusal::Trial => Status::Limit,
-            Refusal::Syntax => Status::Syntax,
+            Refusal::Bytes | Refusal::Limit(_) | Refusal::Trial => Status::Limit,
+            Refusal::Syntax { .. } => Status::Syntax,
+            Refusal::Unsupported { .. } | Refusal::Later { .. } => Status::Unsupported,
+            Refusal::ConstTwice { .. } => Status::Naming,
         }
     }
 
     fn line(&self, alloc: Global) -> Result<String, AllocError>
         ensures { IfOk result (λ line. string_bytes line ≡ refusal_line self.now) }
     {
-        match self {
+        match *self {
             Refusal::Usage => format!(in alloc; "USAGE\n"),
             Refusal::Bytes => format!(in alloc; "LIMIT bytes 16777216\n"),
-            Refusal::Syntax => format!(in alloc; "SYNTAX\n"),
+            Refusal::Syntax { file, at } => format!(in alloc; "SYNTAX {file}:{at}\n"),
+            Refusal::Unsupported {
+                file,
+                at,
+                construct,
+            } => {
+                let name = construct.name();
+                format!(in alloc; "UNSUPPORTED {file}:{at} {name}\n")
+            }
+            Refusal::Limit(which) => limit_line(alloc, which),
+            Refusal::Later { file, at } => format!(in alloc; "UNSUPPORTED {file}:{at} later\n"),
+            Refusal::ConstTwice { file, at } => format!(in alloc; "NAMING {file}:{at} const\n"),
             Refusal::Trial => format!(in alloc; "LIMIT trial 12\n"),
         }
     }

@@ -1,7 +1,8 @@
-//! A run of `asprin`, from words and a file to printed lines.
+//! A run of `asprin`, from words and files to printed lines.
 #![tactic(auto)]
 
 mod end;
+mod found;
 mod input;
 mod listing;
 mod print;
@@ -13,6 +14,7 @@ mod tests;
 mod words;
 
 pub use end::{End, Refusal};
+pub use found::Found;
 pub use quit::Quit;
 pub use run::solve_run;
 pub use stop::Stop;

@@ -3,48 +3,67 @@ ghost use Rattle.std.specs.Prelude.{◌≡◌, ◌≢◌, ◌++◌, false, true,
 ghost use Rattle.std.specs.List.{flat_map};
 ghost use Rattle.ap_base.specs.Counts.{Rose};
 ghost use Rattle.ap_base.specs.Fronts.{TookFront};
-ghost use Rattle.asprin_cli.specs.Lines.{atom_text, is_cut, line_of, set_line, status_of};
+ghost use Rattle.asprin_cli.specs.Lines.{is_cut, line_of, status_of};
+ghost use Rattle.asprin_cli.specs.Listed.{kept_line, kept_text};
 ghost use Rattle.asprin_cli.specs.Quits.{QuitCause};
 
 use crate::{End, Quit};
 use ap_base::{Sink, Status, write_all};
 use ap_syntax::Text;
+use small_front::Shown;
 use std::alloc::{AllocError, Global};
 
-/// Appends the atoms of a set, each behind a space.
-fn push_atoms(line: &mut String, set: &[Text]) -> Result<(), AllocError>
-    ensures { OnOk result (string_bytes line.new ≡ string_bytes line.old ++ flat_map atom_text set.now) }
+/// Appends an atom behind a space, if it is shown.
+fn push_atom(line: &mut String, atom: &Text, shown: &Shown) -> Result<(), AllocError>
+    ensures { OnOk result (string_bytes line.new ≡ string_bytes line.old ++ kept_text shown.now atom.now) }
 {
-    for atom in set {
+    if shown.shows(atom) {
         line.push_str(" ")?;
         line.push_str(atom.as_str())?;
     }
     Ok(())
 }
 
-/// The line of a set.
-fn line_of_set(alloc: Global, number: usize, set: &[Text]) -> Result<String, AllocError>
-    ensures { IfOk result (λ line. string_bytes line ≡ set_line number set.now) }
+/// Appends the atoms of a set that are shown, each behind a space.
+fn push_atoms(line: &mut String, set: &[Text], shown: &Shown) -> Result<(), AllocError>
+    ensures { OnOk result (string_bytes line.new ≡ string_bytes line.old ++ flat_map (kept_text shown.now) set.now) }
+{
+    for atom in set {
+        push_atom(line, atom, shown)?;
+    }
+    Ok(())
+}
+
+/// The line of a set, with the atoms that are shown.
+#[tactic(auto, using(crate::proofs::Showing::kept_texts))]
+fn line_of_set(
+    alloc: Global,
+    number: usize,
+    set: &[Text],
+    shown: &Shown,
+) -> Result<String, AllocError>
+    ensures { IfOk result (λ line. string_bytes line ≡ kept_line shown.now number set.now) }
 {
     let mut line = format!(in alloc; "OPTIMUM {number}:")?;
-    push_atoms(&mut line, set)?;
+    push_atoms(&mut line, set, shown)?;
     line.push_str("\n")?;
     Ok(line)
 }
 
-/// Prints the line of a set.
+/// Prints the line of a set, with the atoms that are shown.
 pub fn print_set<O: Sink>(
     alloc: Global,
     number: usize,
     set: &[Text],
+    shown: &Shown,
     out: &mut O,
 ) -> Result<(), Quit>
-    ensures all { IsTrue O.tells → OnOk result (O.taken out.new ≡ O.taken out.old ++ set_line number set.now) }
-    ensures part { IsTrue O.tells → OnErr result (TookFront (O.taken out.old) (O.taken out.new) (set_line number set.now)) }
+    ensures all { IsTrue O.tells → OnOk result (O.taken out.new ≡ O.taken out.old ++ kept_line shown.now number set.now) }
+    ensures part { IsTrue O.tells → OnErr result (TookFront (O.taken out.old) (O.taken out.new) (kept_line shown.now number set.now)) }
     ensures kept { OnOk result (O.faults out.new ≡ O.faults out.old) }
     ensures cause { IfErr result (QuitCause (O.faults out.old) (O.faults out.new)) }
 {
-    let Ok(line) = line_of_set(alloc, number, set) else {
+    let Ok(line) = line_of_set(alloc, number, set, shown) else {
         return Err(Quit::Memory);
     };
     write_all(out, line.as_bytes()).map_err(|_| Quit::Sink)

@@ -4,36 +4,45 @@ use ap_base::{MemSink, MemSource, NamedBytes, Status};
 use std::alloc::{AllocError, Global};
 use std::test::Fail;
 
-const WORDS: [&str; 4] = ["--sorted", "-n", "0", "f"];
+const ONE_FILE: [&str; 4] = ["--sorted", "-n", "0", "f"];
 
-/// One file `f` with this text, and what fails.
+const TWO_FILES: [&str; 5] = ["--sorted", "-n", "0", "f", "g"];
+
+/// A run over the files `f` and `g` with these bytes, and what fails.
 #[derive(Clone, Copy)]
 struct Case<'a> {
     words: &'a [&'a str],
-    text: &'a str,
+    f: &'a [u8],
+    g: &'a [u8],
     fails: &'a [u64],
     room: usize,
-    line: &'a str,
+    lines: &'a str,
     status: Status,
 }
 
-fn reading<'a>(text: &'a str, line: &'a str, status: Status) -> Case<'a> {
+fn reading<'a>(f: &'a [u8], lines: &'a str, status: Status) -> Case<'a> {
     Case {
-        words: &WORDS,
-        text,
+        words: &ONE_FILE,
+        f,
+        g: &[],
         fails: &[],
         room: 1000,
-        line,
+        lines,
         status,
     }
 }
 
-fn source_of(alloc: Global, text: &[u8], fails: &[u64]) -> Result<MemSource, AllocError> {
+fn named(alloc: Global, name: &str, bytes: &[u8]) -> Result<NamedBytes, AllocError> {
+    Ok(NamedBytes {
+        name: String::from_str(alloc, name)?,
+        bytes: Vec::from_slice(alloc, bytes)?,
+    })
+}
+
+fn source_of(alloc: Global, f: &[u8], g: &[u8], fails: &[u64]) -> Result<MemSource, AllocError> {
     let mut files = Vec::new(alloc);
-    files.push(NamedBytes {
-        name: String::from_str(alloc, "f")?,
-        bytes: Vec::from_slice(alloc, text)?,
-    })?;
+    files.push(named(alloc, "f", f)?)?;
+    files.push(named(alloc, "g", g)?)?;
     Ok(MemSource::new(files, Vec::from_slice(alloc, fails)?))
 }
 
@@ -45,138 +54,292 @@ fn words_of(alloc: Global, words: &[&str]) -> Result<Vec<String>, AllocError> {
     Ok(list)
 }
 
-/// Whether the run of a case answers its status and writes its line.
+/// Whether the run of a case answers its status and writes its lines.
 fn passes(alloc: Global, case: &Case) -> Result<bool, AllocError> {
     let words = words_of(alloc, case.words)?;
-    let mut src = source_of(alloc, case.text.as_bytes(), case.fails)?;
+    let mut src = source_of(alloc, case.f, case.g, case.fails)?;
     src.piece(3);
     let mut out = MemSink::new(alloc, case.room, Vec::new(alloc))?;
     out.piece(7);
     let mut cert = MemSink::new(alloc, 0, Vec::new(alloc))?;
     let status = solve_run(alloc, &words, &mut src, &mut out, &mut cert);
-    Ok(status == case.status && out.bytes() == case.line.as_bytes())
+    Ok(status == case.status && out.bytes() == case.lines.as_bytes())
 }
 
-/// The place of the first case that does not pass.
-fn first_failure(alloc: Global, cases: &[Case]) -> Result<Option<usize>, AllocError> {
-    for (at, case) in cases.iter().enumerate() {
-        if !passes(alloc, case)? {
-            return Ok(Some(at));
-        }
+/// Texts of one file, with the lines and the status of their runs: listings, what is shown, what is no text of the grammar, what
+/// is not of the small language, and the order of the refusals.
+const TEXTS: [(&str, &str, Status); 38] = [
+    (
+        "{a;b}. :- not a, not b. #preference(p,subset){a;b}. #optimize(p).",
+        "OPTIMUM 1: a\nOPTIMUM 2: b\nDONE 2\n",
+        Status::Done,
+    ),
+    ("", "OPTIMUM 1:\nDONE 1\n", Status::Done),
+    ("% nothing", "OPTIMUM 1:\nDONE 1\n", Status::Done),
+    ("a :- not a.", "UNSATISFIABLE\n", Status::Unsatisfiable),
+    (
+        "a :- b. b :- a. a :- c. {c}. :- not a. #preference(p,subset){c}. #optimize(p).",
+        "OPTIMUM 1: a b c\nDONE 1\n",
+        Status::Done,
+    ),
+    (
+        "{b;a;b}.\n#preference(p,subset){}. #optimize(p).",
+        "OPTIMUM 1:\nOPTIMUM 2: a\nOPTIMUM 3: a b\nOPTIMUM 4: b\nDONE 4\n",
+        Status::Done,
+    ),
+    (
+        "#optimize(p). #preference(p,subset){x;a}. {a}. :- not a.",
+        "OPTIMUM 1: a\nDONE 1\n",
+        Status::Done,
+    ),
+    (
+        "{a;b}. #preference(p,subset){a;b}.",
+        "OPTIMUM 1:\nOPTIMUM 2: a\nOPTIMUM 3: a b\nOPTIMUM 4: b\nDONE 4\n",
+        Status::Done,
+    ),
+    (
+        "{a;b}. #show a/0.",
+        "OPTIMUM 1:\nOPTIMUM 2: a\nOPTIMUM 3: a\nOPTIMUM 4:\nDONE 4\n",
+        Status::Done,
+    ),
+    (
+        "a. b. #show. #show b/0. #show a/1.",
+        "OPTIMUM 1: b\nDONE 1\n",
+        Status::Done,
+    ),
+    ("a. #show.", "OPTIMUM 1:\nDONE 1\n", Status::Done),
+    (
+        "#const n = 1. #defined a/0. #program base. a.",
+        "OPTIMUM 1: a\nDONE 1\n",
+        Status::Done,
+    ),
+    ("a", "SYNTAX 1:1\n", Status::Syntax),
+    ("a :- .", "SYNTAX 1:5\n", Status::Syntax),
+    ("{a} :- b", "SYNTAX 1:8\n", Status::Syntax),
+    ("a(2147483648).", "SYNTAX 1:2\n", Status::Syntax),
+    ("a :- not b < c.", "SYNTAX 1:13\n", Status::Syntax),
+    (
+        "a | b.",
+        "UNSUPPORTED 1:2 disjunction\n",
+        Status::Unsupported,
+    ),
+    (
+        "a ; b.",
+        "UNSUPPORTED 1:2 disjunction\n",
+        Status::Unsupported,
+    ),
+    ("p(1;2).", "UNSUPPORTED 1:3 pool\n", Status::Unsupported),
+    (
+        "#minimize{1:a}.",
+        "UNSUPPORTED 1:0 minimize\n",
+        Status::Unsupported,
+    ),
+    ("a :- {b}.", "UNSUPPORTED 1:5 braces\n", Status::Unsupported),
+    (
+        "#external a.",
+        "UNSUPPORTED 1:0 external\n",
+        Status::Unsupported,
+    ),
+    (
+        "p(X) :- q(X), X = #min{Y : r(Y)}.",
+        "UNSUPPORTED 1:18 minmax\n",
+        Status::Unsupported,
+    ),
+    ("%* x *%", "UNSUPPORTED 1:0 comment\n", Status::Unsupported),
+    (
+        "p(((((((((((((((((((((((((((((((((1))))))))))))))))))))))))))))))))).",
+        "LIMIT nesting 32\n",
+        Status::Limit,
+    ),
+    (
+        "p(1,1,1,1,1,1,1,1,1,1,1,1,1,1,1,1,1,1,1,1,1,1,1,1,1,1,1,1,1,1,1,1,1).",
+        "LIMIT arity 32\n",
+        Status::Limit,
+    ),
+    (
+        "#preference(p,subset){a&a&a&a&a&a&a&a&a&a&a&a&a&a&a&a&a&a&a&a&a&a&a&a&a&a&a&a&a&a&a&a&a&a&a&a&a&a&a&a&a&a&a&a&a&a&a&a&a&a&a&a&a&a&a&a&a&a&a&a&a&a&a&a&a}.",
+        "LIMIT formula 64\n",
+        Status::Limit,
+    ),
+    (
+        "p((((((((((((((((((((((((((((((((1)))))))))))))))))))))))))))))))).",
+        "UNSUPPORTED 1:0 later\n",
+        Status::Unsupported,
+    ),
+    (
+        "p(1,1,1,1,1,1,1,1,1,1,1,1,1,1,1,1,1,1,1,1,1,1,1,1,1,1,1,1,1,1,1,1).",
+        "UNSUPPORTED 1:0 later\n",
+        Status::Unsupported,
+    ),
+    (
+        "#preference(p,subset){a&a&a&a&a&a&a&a&a&a&a&a&a&a&a&a&a&a&a&a&a&a&a&a&a&a&a&a&a&a&a&a&a&a&a&a&a&a&a&a&a&a&a&a&a&a&a&a&a&a&a&a&a&a&a&a&a&a&a&a&a&a&a&a}.",
+        "UNSUPPORTED 1:0 later\n",
+        Status::Unsupported,
+    ),
+    ("a(1).", "UNSUPPORTED 1:0 later\n", Status::Unsupported),
+    (
+        "#preference(p,subset){a}. #optimize(q).",
+        "UNSUPPORTED 1:26 later\n",
+        Status::Unsupported,
+    ),
+    (
+        "#const n = 1. #const n = 2.",
+        "NAMING 1:14 const\n",
+        Status::Naming,
+    ),
+    (
+        "#const n = 1. #const n = 2. a(1).",
+        "UNSUPPORTED 1:28 later\n",
+        Status::Unsupported,
+    ),
+    (
+        "#const n = 1. #const n = 2. {a;b;c;d;e;f;g;h;i;j;k;l;m}.",
+        "NAMING 1:14 const\n",
+        Status::Naming,
+    ),
+    (
+        "{a;b;c;d;e;f;g;h;i;j;k;l;m}.",
+        "LIMIT trial 12\n",
+        Status::Limit,
+    ),
+    (
+        "{a;b;c;d;e;f;g;h;i;j;k;l;m}. a :- .",
+        "SYNTAX 1:34\n",
+        Status::Syntax,
+    ),
+];
+
+#[test]
+fn texts(rt: HostRuntime) -> Result<(), Fail> {
+    for (at, (text, lines, status)) in TEXTS.iter().enumerate() {
+        let case = reading(text.as_bytes(), *lines, *status);
+        assert!(rt; passes(rt.alloc(), &case)?, "text {at}");
     }
-    Ok(None)
-}
-
-#[test]
-fn listings(rt: HostRuntime) -> Result<(), Fail> {
-    let cases = [
-        reading(
-            "{a;b}. :- not a, not b. #preference(p,subset){a;b}. #optimize(p).",
-            "OPTIMUM 1: a\nOPTIMUM 2: b\nDONE 2\n",
-            Status::Done,
-        ),
-        reading("", "OPTIMUM 1:\nDONE 1\n", Status::Done),
-        reading("a :- not a.", "UNSATISFIABLE\n", Status::Unsatisfiable),
-        reading(
-            "a :- b. b :- a. a :- c. {c}. :- not a. #preference(p,subset){c}. #optimize(p).",
-            "OPTIMUM 1: a b c\nDONE 1\n",
-            Status::Done,
-        ),
-        reading(
-            "{b;a;b}.\n#preference(p,subset){}. #optimize(p).",
-            "OPTIMUM 1:\nOPTIMUM 2: a\nOPTIMUM 3: a b\nOPTIMUM 4: b\nDONE 4\n",
-            Status::Done,
-        ),
-        reading(
-            "#optimize(p). #preference(p,subset){x;a}. {a}. :- not a.",
-            "OPTIMUM 1: a\nDONE 1\n",
-            Status::Done,
-        ),
-        reading(
-            "{a;b}. #preference(p,subset){a;b}.",
-            "OPTIMUM 1:\nOPTIMUM 2: a\nOPTIMUM 3: a b\nOPTIMUM 4: b\nDONE 4\n",
-            Status::Done,
-        ),
-    ];
-    assert_eq!(rt; first_failure(rt.alloc(), &cases)?, None);
     Ok(())
 }
 
-#[test]
-fn refusals(rt: HostRuntime) -> Result<(), Fail> {
-    let cases = [
-        reading(
-            "{a;b;c;d;e;f;g;h;i;j;k;l;m}.",
-            "LIMIT trial 12\n",
-            Status::Limit,
-        ),
-        reading("a(1).", "SYNTAX\n", Status::Syntax),
-        reading("a", "SYNTAX\n", Status::Syntax),
-        reading(
-            "#preference(p,subset){a}. #optimize(q).",
-            "SYNTAX\n",
-            Status::Syntax,
-        ),
-        reading("% nothing", "SYNTAX\n", Status::Syntax),
-    ];
-    assert_eq!(rt; first_failure(rt.alloc(), &cases)?, None);
-    Ok(())
-}
+const ROW: &[u8] = b"{a;b}. :- not a, not b. #preference(p,subset){a;b}. #optimize(p).";
 
 #[test]
-fn words_and_faults(rt: HostRuntime) -> Result<(), Fail> {
-    let row = "{a;b}. :- not a, not b. #preference(p,subset){a;b}. #optimize(p).";
+fn words_files_and_faults(rt: HostRuntime) -> Result<(), Fail> {
+    let row = reading(ROW, "", Status::Usage);
+    let usage = Case {
+        lines: "USAGE\n",
+        ..row
+    };
+    let source = Case {
+        lines: "SOURCE 1\n",
+        status: Status::Source,
+        ..row
+    };
+    let two = Case {
+        words: &TWO_FILES,
+        ..row
+    };
     let cases = [
         Case {
             words: &[],
-            ..reading(row, "USAGE\n", Status::Usage)
+            ..usage
+        },
+        Case {
+            words: &["--sorted", "-n", "0"],
+            ..usage
         },
         Case {
             words: &["--sorted", "-n", "1", "f"],
-            ..reading(row, "USAGE\n", Status::Usage)
+            ..usage
         },
         Case {
             words: &["--sorted", "-n", "0", "-f"],
-            ..reading(row, "USAGE\n", Status::Usage)
+            ..usage
         },
         Case {
-            words: &["--sorted", "-n", "0", ""],
-            ..reading(row, "USAGE\n", Status::Usage)
+            words: &["--sorted", "-n", "0", "f", ""],
+            ..usage
         },
         Case {
-            words: &["--sorted", "-n", "0", "f", "f"],
-            ..reading(row, "USAGE\n", Status::Usage)
-        },
-        Case {
-            words: &["--sorted", "-n", "0", "g"],
-            ..reading(row, "SOURCE 1\n", Status::Source)
+            words: &["--sorted", "-n", "0", "h"],
+            ..source
         },
         Case {
             fails: &[0],
-            ..reading(row, "SOURCE 1\n", Status::Source)
+            ..source
         },
         Case {
             fails: &[1],
-            ..reading(row, "SOURCE 1\n", Status::Source)
+            ..source
         },
         Case {
+            words: &["--sorted", "-n", "0", "f", "h"],
+            lines: "SOURCE 2\n",
+            ..source
+        },
+        Case {
+            lines: "OPTIMUM 1:",
             room: 10,
-            ..reading(row, "OPTIMUM 1:", Status::Sink)
+            status: Status::Sink,
+            ..row
+        },
+        Case {
+            g: b":- a.",
+            lines: "OPTIMUM 1: b\nDONE 1\n",
+            status: Status::Done,
+            ..two
+        },
+        Case {
+            g: b"a. #external b.",
+            lines: "UNSUPPORTED 2:3 external\n",
+            status: Status::Unsupported,
+            ..two
+        },
+        Case {
+            g: b"#optimize(p).",
+            lines: "UNSUPPORTED 2:0 later\n",
+            status: Status::Unsupported,
+            ..two
+        },
+        Case {
+            f: b"#const n = 1.",
+            g: b"#const n = 2.",
+            lines: "NAMING 2:0 const\n",
+            status: Status::Naming,
+            ..two
+        },
+        Case {
+            f: b"a",
+            g: b".",
+            lines: "SYNTAX 1:1\n",
+            status: Status::Syntax,
+            ..two
+        },
+        Case {
+            f: b"a. \xff",
+            lines: "SYNTAX 1:3\n",
+            status: Status::Syntax,
+            ..row
+        },
+        Case {
+            f: b"% \xff\na.",
+            lines: "SYNTAX 1:2\n",
+            status: Status::Syntax,
+            ..row
         },
     ];
-    assert_eq!(rt; first_failure(rt.alloc(), &cases)?, None);
+    for (at, case) in cases.iter().enumerate() {
+        assert!(rt; passes(rt.alloc(), case)?, "case {at}");
+    }
     Ok(())
 }
 
 /// What a run over so many spaces answers, where these calls of the source fail.
 fn run_blanks(alloc: Global, count: usize, fails: &[u64]) -> Result<Status, AllocError> {
     let text = vec![in alloc; b' '; count]?;
-    let mut src = source_of(alloc, &text, fails)?;
+    let mut src = source_of(alloc, &text, &[], fails)?;
     let mut out = MemSink::new(alloc, 100, Vec::new(alloc))?;
     let mut cert = MemSink::new(alloc, 0, Vec::new(alloc))?;
     Ok(solve_run(
         alloc,
-        &words_of(alloc, &WORDS)?,
+        &words_of(alloc, &ONE_FILE)?,
         &mut src,
         &mut out,
         &mut cert,

@@ -3,10 +3,9 @@ ghost use Rattle.std.specs.Prelude.{◌≡◌, ℕ, Bool, List, map, IfOk, slice
 ghost use Rattle.std.specs.List.{list_any};
 ghost use Rattle.std.specs.Option.{option_copied};
 ghost use Rattle.ap_eval.specs.AtomSets.{has};
-ghost use Rattle.small_parse.specs.Language.{optimised_of, preferences_of};
 ghost use Rattle.small_optima.specs.Kept.{Kept};
 ghost use Rattle.small_optima.specs.Marks.{marks_better, marks_part};
-ghost use Rattle.small_optima.specs.Preferred.{optimised, preference_named, satisfies};
+ghost use Rattle.small_optima.specs.Preferred.{optimised, optimised_of, preference_named, preferences_of, satisfies};
 ghost use Rattle.small_optima.specs.Unbeaten.{IsUnbeatenIn, elements_of, marks_of};
 
 use ap_syntax::Text;

@@ -1,6 +1,6 @@
 use Rattle.std.proofs.Common.{◌≡◌, drop}
 use Rattle.std.specs.List.{filter_map}
-use Rattle.small_parse.specs.Language.{optimised_by}
+use Rattle.small_optima.specs.Preferred.{optimised_by}
 use Rattle.small_optima.proofs.preferred.optimize_name.Given as goal
 
 abbrev pub invariant-loop-statement : goal.invariant-loop-statement

@@ -1,7 +1,6 @@
 use Rattle.std.proofs.Common.{◌≡◌, drop}
 use Rattle.std.specs.List.{filter_map}
-use Rattle.small_parse.specs.Language.{preference_of}
-use Rattle.small_optima.specs.Preferred.{preference_named}
+use Rattle.small_optima.specs.Preferred.{preference_named, preference_of}
 use Rattle.small_optima.proofs.preferred.preference_of.Given as goal
 
 abbrev pub invariant-loop-statement : goal.invariant-loop-statement

@@ -1,0 +1,40 @@
+// The statements of several files.
+ghost use Rattle.std.specs.Prelude.{◌≡◌, ◌≤◌, ◌<◌, All, length, IfOk, IfErr};
+ghost use Rattle.small_front.specs.Files.{AreRead, bytes_of};
+ghost use Rattle.small_front.specs.Stages.{ReadingCause, refusal_of};
+
+use crate::fault::FrontFault;
+use ap_lexemes::ParseFault;
+use ap_syntax::Statement;
+use pref_parse::parse_bytes;
+use sqlite_items::Items;
+use std::alloc::Global;
+
+/// The refusal of a file with this fault.
+fn refusal(file: u32, fault: ParseFault) -> FrontFault
+    ensures { result ≡ refusal_of file fault }
+{
+    match fault {
+        ParseFault::Memory => FrontFault::Memory,
+        other => FrontFault::Reading { file, fault: other },
+    }
+}
+
+/// The statements of all files, in order. `Reading` comes exactly for the first file that is not the text of a program.
+pub fn read_files(alloc: Global, files: &[Vec<u8>]) -> Result<Items<Statement>, FrontFault>
+    requires sizes { All (λ file. length file.items ≤ 16777216) files.now }
+    requires few { length files.now < 4294967295 }
+    ensures read { IfOk result (AreRead 1 (bytes_of files.now)) }
+    ensures fault { IfErr result (ReadingCause (bytes_of files.now)) }
+{
+    let mut statements = Items::new(alloc);
+    let mut number = 0;
+    for file in files {
+        number += 1;
+        match parse_bytes(alloc, file, number) {
+            Ok(program) => statements.append(program.statements)?,
+            Err(fault) => return Err(refusal(number, fault)),
+        }
+    }
+    Ok(statements)
+}

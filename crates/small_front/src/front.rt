@@ -1,0 +1,41 @@
+// From the bytes of files to what is accepted.
+ghost use Rattle.std.specs.Prelude.{◌≤◌, ◌<◌, All, length, IfOk, IfErr};
+ghost use Rattle.small_front.specs.Accepts.{FrontCause, IsAccepted};
+ghost use Rattle.small_front.specs.Files.{bytes_of};
+
+use crate::accepted::Accepted;
+use crate::constants::second_const;
+use crate::fault::FrontFault;
+use crate::files::read_files;
+use crate::place::Place;
+use crate::program::small_program;
+use crate::shown::shown_by;
+use std::alloc::Global;
+
+/// The small program of all files together, with the atoms that are shown, or the first refusal. Files are numbered from 1 in
+/// the order in which they are given; each has at most 16,777,216 bytes, and they are fewer than 4,294,967,295.
+///
+/// `Reading` comes exactly for the first file that is not the text of a program, with its fault. Where all are, `Later` comes
+/// exactly for the first statement that is not of the small language: a rule whose head is not an atom without arguments, a
+/// choice of such atoms without guards and conditions, or nothing, or whose body has something else than such atoms and
+/// `not` before such atoms; a preference statement of another type than `subset`, with other elements than such atoms, or
+/// behind another one; an `#optimize` behind another one or of a name that no preference statement has; and the part of a
+/// type. Where there is none, `ConstTwice` comes exactly for the first `#const` of a name that has one before it. `Memory`
+/// comes where memory ran out.
+pub fn accept(alloc: Global, files: &[Vec<u8>]) -> Result<Accepted, FrontFault>
+    requires sizes { All (λ file. length file.items ≤ 16777216) files.now }
+    requires few { length files.now < 4294967295 }
+    ensures accepted { IfOk result (IsAccepted (bytes_of files.now)) }
+    ensures refused { IfErr result (FrontCause (bytes_of files.now)) }
+{
+    let statements = read_files(alloc, files)?;
+    let statements = statements.as_slice();
+    let program = small_program(alloc, statements)?;
+    if let Some(Place { file, at }) = second_const(alloc, statements)? {
+        return Err(FrontFault::ConstTwice { file, at });
+    }
+    Ok(Accepted {
+        program,
+        shown: shown_by(alloc, statements)?,
+    })
+}

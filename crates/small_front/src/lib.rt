@@ -1,0 +1,21 @@
+//! From the bytes of files to the small program that is run, or the refusal.
+#![tactic(auto)]
+
+mod accepted;
+mod constants;
+mod fault;
+mod files;
+mod front;
+mod names;
+mod place;
+mod preferences;
+mod program;
+mod rules;
+mod shown;
+
+pub use accepted::Accepted;
+pub use fault::FrontFault;
+pub use front::accept;
+pub use names::Names;
+pub use place::Place;
+pub use shown::Shown;
