@@ -24,16 +24,16 @@ use Rattle.ap_grammar.proofs.Known.{all_known}
 use Rattle.ap_grammar.proofs.Readable.{readable}
 use Rattle.ap_grammar.proofs.Sorts.{Has}
 use Rattle.ap_grammar.proofs.ToDocument.{to_document}
-use Rattle.ap_parse.specs.declared.error.Stop.{Stop}
-use Rattle.ap_parse.specs.declared.error.Stop.TheVariants.{Syntax}
+use Rattle.literal_parse.specs.declared.error.Stop.{Stop}
+use Rattle.literal_parse.specs.declared.error.Stop.TheVariants.{Syntax}
 use Rattle.ap_parse.specs.Aggregates.{IsAggElement, IsAggElements, IsAggregate, IsFunction, braced, guarding}
 use Rattle.ap_parse.specs.Guards.{IsOptionalGuard}
-use Rattle.ap_parse.specs.Literals.{IsOptionalCondition}
-use Rattle.ap_parse.specs.Reads.{Reads, IsAny, IsNext, Lacks}
-use Rattle.ap_parse.specs.Terms.{IsTerms}
-use Rattle.ap_parse.proofs.Collects.{Collects, collected-append, collects_more, collects_fail, collects_end}
-use Rattle.ap_parse.proofs.Primaries.{TermItem}
-use Rattle.ap_parse.proofs.Steps.{taken, follow, giving, fails_from, fails_tok, next_starts, next_takes, not_seq, seq_starts}
+use Rattle.literal_parse.specs.Literals.{IsOptionalCondition}
+use Rattle.literal_parse.specs.Reads.{Reads, IsAny, IsNext, Lacks}
+use Rattle.literal_parse.specs.Terms.{IsTerms}
+use Rattle.literal_parse.proofs.Collects.{Collects, collected-append, collects_more, collects_fail, collects_end}
+use Rattle.literal_parse.proofs.Primaries.{TermItem}
+use Rattle.literal_parse.proofs.Steps.{taken, follow, giving, fails_from, fails_tok, next_starts, next_takes, not_seq, seq_starts}
 
 -- ---- elements
 

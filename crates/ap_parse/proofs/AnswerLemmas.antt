@@ -21,13 +21,13 @@ use Rattle.ap_lexemes.specs.Limits.{first_limit}
 use Rattle.ap_lexemes.specs.Texts.{IsOutcome, in_type}
 use Rattle.ap_lexemes.specs.Tokenizing.{IsTokenized, fault_where, is_read, readable, tokens_of}
 use Rattle.ap_lexemes.proofs.TokenizingLemmas.{all_within, fault_within, last_within}
-use Rattle.ap_parse.specs.declared.error.Stop.{Stop}
-use Rattle.ap_parse.specs.declared.error.Stop.TheVariants.{Syntax}
+use Rattle.literal_parse.specs.declared.error.Stop.{Stop}
+use Rattle.literal_parse.specs.declared.error.Stop.TheVariants.{Syntax}
 use Rattle.ap_parse.specs.Changes.{changing}
 use Rattle.ap_parse.specs.Openings.{is_of_type}
-use Rattle.ap_parse.specs.Reads.{Reads}
+use Rattle.literal_parse.specs.Reads.{Reads}
 use Rattle.ap_parse.specs.Texts.{IsAnswer, IsReading}
-use Rattle.ap_parse.proofs.Steps.{giving, taken}
+use Rattle.literal_parse.proofs.Steps.{giving, taken}
 
 pub fault_by : {X : Type 0} {Q : ParseFault → Type 0} (r : Result X ParseFault) → IsErrAnd r Q → (d : ParseFault) × (r ≡ Err d) × Q d
 fault_by (Ok x) h = absurd h

@@ -25,19 +25,19 @@ use Rattle.ap_grammar.specs.Tables.{tables}
 use Rattle.ap_parse.specs.declared.aggregates.Aggregate.{Aggregate}
 use Rattle.ap_parse.specs.declared.bodies.Core.{Core}
 use Rattle.ap_parse.specs.declared.bodies.Core.TheVariants as cores
-use Rattle.ap_parse.specs.declared.cursor.Place.{Place}
-use Rattle.ap_parse.specs.declared.error.Stop.{Stop}
-use Rattle.ap_parse.specs.declared.operand.Operand.{Operand}
-use Rattle.ap_parse.specs.declared.operand.Operand.TheVariants.{Bare, Other}
+use Rattle.literal_parse.specs.declared.cursor.Place.{Place}
+use Rattle.literal_parse.specs.declared.error.Stop.{Stop}
+use Rattle.literal_parse.specs.declared.operand.Operand.{Operand}
+use Rattle.literal_parse.specs.declared.operand.Operand.TheVariants.{Bare, Other}
 use Rattle.ap_parse.specs.Aggregates.{IsAggregate, guarding}
 use Rattle.ap_parse.specs.Bodies.{Begins, Ends, IsBehind, IsBody, IsCore, IsNegated, IsNegatedBehind, IsRelated, IsSeparated, ReadsItem, behind_item, core_value, kind_of}
-use Rattle.ap_parse.specs.Literals.{IsCondition, IsSign}
-use Rattle.ap_parse.specs.Operands.{BareOr, IsOperand, tree_of, value_of}
-use Rattle.ap_parse.specs.Reads.{Reads, IsNext, IsPlace, Lacks, Leads}
+use Rattle.literal_parse.specs.Literals.{IsCondition, IsSign}
+use Rattle.literal_parse.specs.Operands.{BareOr, IsOperand, tree_of, value_of}
+use Rattle.literal_parse.specs.Reads.{Reads, IsNext, IsPlace, Lacks, Leads}
 use Rattle.ap_parse.proofs.AggregateLemmas.{aggregate_fails}
-use Rattle.ap_parse.proofs.LiteralLemmas.{bare_ok, bare_err}
-use Rattle.ap_parse.proofs.Relations.{sign_takes, sign_starts}
-use Rattle.ap_parse.proofs.Steps.{taken, follow, giving, from, fails_from, next_starts, next_takes, not_seq, not_alt, seq_starts, stopped_syntax}
+use Rattle.literal_parse.proofs.LiteralLemmas.{bare_ok, bare_err}
+use Rattle.literal_parse.proofs.Relations.{sign_takes, sign_starts}
+use Rattle.literal_parse.proofs.Steps.{taken, follow, giving, from, fails_from, next_starts, next_takes, not_seq, not_alt, seq_starts, stopped_syntax}
 
 alone : {v w : Value} → v ≡ w → v ∷ [] ≡ w ∷ []
 alone e = ap (λ v. v ∷ []) e

@@ -16,13 +16,13 @@ use Rattle.ap_grammar.specs.Values.Value.{token, choice_element}
 use Rattle.ap_grammar.specs.Grammar.{Name, made}
 use Rattle.ap_grammar.specs.Factored.{Rhs, call, choice, factored}
 use Rattle.ap_grammar.specs.Tables.{tables}
-use Rattle.ap_parse.specs.declared.error.Stop.TheVariants.{Syntax}
-use Rattle.ap_parse.specs.Reads.{Reads, IsAny, IsNext, Lacks}
-use Rattle.ap_parse.specs.Literals.{IsAtom, IsOptionalCondition}
+use Rattle.literal_parse.specs.declared.error.Stop.TheVariants.{Syntax}
+use Rattle.literal_parse.specs.Reads.{Reads, IsAny, IsNext, Lacks}
+use Rattle.literal_parse.specs.Literals.{IsAtom, IsOptionalCondition}
 use Rattle.ap_parse.specs.Guards.{IsOptionalGuard}
 use Rattle.ap_parse.specs.Choices.{IsBraced, IsChoice, IsChoiceElement, IsListed, IsUnguarded, braced, listed}
-use Rattle.ap_parse.proofs.Steps.{taken, fails_tok, giving, next_starts, next_takes, not_seq, seq_starts}
-use Rattle.ap_parse.proofs.Collects.{collected-append}
+use Rattle.literal_parse.proofs.Steps.{taken, fails_tok, giving, next_starts, next_takes, not_seq, seq_starts}
+use Rattle.literal_parse.proofs.Collects.{collected-append}
 
 alone : {v w : Value} → v ≡ w → v ∷ [] ≡ w ∷ []
 alone e = ap (λ v. v ∷ []) e

@@ -12,14 +12,14 @@ use Rattle.ap_grammar.specs.Values.Value.{relation, right}
 use Rattle.ap_grammar.specs.Grammar.{Name, made}
 use Rattle.ap_grammar.specs.Factored.{call, factored}
 use Rattle.ap_grammar.specs.Tables.{tables}
-use Rattle.ap_parse.specs.declared.operand.Operand.{Operand}
-use Rattle.ap_parse.specs.declared.operand.Operand.TheVariants.{Bare, Other}
-use Rattle.ap_parse.specs.Reads.{Reads}
-use Rattle.ap_parse.specs.Operands.{IsOperand, tree_of, value_of}
-use Rattle.ap_parse.specs.Literals.{Relations}
+use Rattle.literal_parse.specs.declared.operand.Operand.{Operand}
+use Rattle.literal_parse.specs.declared.operand.Operand.TheVariants.{Bare, Other}
+use Rattle.literal_parse.specs.Reads.{Reads}
+use Rattle.literal_parse.specs.Operands.{IsOperand, tree_of, value_of}
+use Rattle.literal_parse.specs.Literals.{Relations}
 use Rattle.ap_parse.specs.Guards.{IsOptionalGuard, IsRightGuard}
-use Rattle.ap_parse.proofs.Steps.{taken, from, fails_from, giving}
-use Rattle.ap_parse.proofs.Relations.{sign_takes, sign_starts}
+use Rattle.literal_parse.proofs.Steps.{taken, from, fails_from, giving}
+use Rattle.literal_parse.proofs.Relations.{sign_takes, sign_starts}
 
 alone : {v w : Value} → v ≡ w → v ∷ [] ≡ w ∷ []
 alone e = ap (λ v. v ∷ []) e

@@ -17,17 +17,17 @@ use Rattle.ap_grammar.specs.Values.Value.{relation, head}
 use Rattle.ap_grammar.specs.Grammar.{Name}
 use Rattle.ap_grammar.specs.Factored.{Rhs, call, choice, factored, head_behind, head_made}
 use Rattle.ap_grammar.specs.Tables.{tables}
-use Rattle.ap_parse.specs.declared.error.Stop.{Stop}
-use Rattle.ap_parse.specs.declared.operand.Operand.{Operand}
-use Rattle.ap_parse.specs.declared.operand.Operand.TheVariants.{Bare, Other}
-use Rattle.ap_parse.specs.Reads.{Reads, Lacks}
-use Rattle.ap_parse.specs.Operands.{BareOr, IsOperand, tree_of, value_of}
-use Rattle.ap_parse.specs.Literals.{IsSign}
+use Rattle.literal_parse.specs.declared.error.Stop.{Stop}
+use Rattle.literal_parse.specs.declared.operand.Operand.{Operand}
+use Rattle.literal_parse.specs.declared.operand.Operand.TheVariants.{Bare, Other}
+use Rattle.literal_parse.specs.Reads.{Reads, Lacks}
+use Rattle.literal_parse.specs.Operands.{BareOr, IsOperand, tree_of, value_of}
+use Rattle.literal_parse.specs.Literals.{IsSign}
 use Rattle.ap_parse.specs.Choices.{IsChoice}
 use Rattle.ap_parse.specs.Heads.{IsHead}
-use Rattle.ap_parse.proofs.Steps.{taken, follow, from, fails_from, fails_tok, giving, stopped_syntax}
-use Rattle.ap_parse.proofs.Relations.{sign_takes, sign_starts}
-use Rattle.ap_parse.proofs.LiteralLemmas.{bare_ok, bare_err}
+use Rattle.literal_parse.proofs.Steps.{taken, follow, from, fails_from, fails_tok, giving, stopped_syntax}
+use Rattle.literal_parse.proofs.Relations.{sign_takes, sign_starts}
+use Rattle.literal_parse.proofs.LiteralLemmas.{bare_ok, bare_err}
 
 alone : {v w : Value} → v ≡ w → v ∷ [] ≡ w ∷ []
 alone e = ap (λ v. v ∷ []) e

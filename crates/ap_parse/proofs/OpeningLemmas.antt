@@ -14,14 +14,14 @@ use Rattle.ap_grammar.specs.Values.Value.{token, kind, statement}
 use Rattle.ap_grammar.specs.Grammar.{Name}
 use Rattle.ap_grammar.specs.Factored.{Part, call, factored, type_opening, opened, opening}
 use Rattle.ap_grammar.specs.Tables.{tables}
-use Rattle.ap_parse.specs.declared.cursor.Place.{Place}
-use Rattle.ap_parse.specs.declared.error.Stop.{Stop}
-use Rattle.ap_parse.specs.declared.error.Stop.TheVariants.{Syntax}
+use Rattle.literal_parse.specs.declared.cursor.Place.{Place}
+use Rattle.literal_parse.specs.declared.error.Stop.{Stop}
+use Rattle.literal_parse.specs.declared.error.Stop.TheVariants.{Syntax}
 use Rattle.ap_parse.specs.declared.openings.Opening.{Opening}
-use Rattle.ap_parse.specs.Reads.{Reads, IsAny, IsName, IsNext, IsPlace, Lacks}
+use Rattle.literal_parse.specs.Reads.{Reads, IsAny, IsName, IsNext, IsPlace, Lacks}
 use Rattle.ap_parse.specs.Openings.{IsKind, IsOpening, IsPart, opening_form, opening_statement, part_form}
 use Rattle.ap_parse.specs.Statements.{IsStatement}
-use Rattle.ap_parse.proofs.Steps.{taken, follow, giving, from, fails_from, fails_tok, next_starts, next_takes, not_seq, seq_starts}
+use Rattle.literal_parse.proofs.Steps.{taken, follow, giving, from, fails_from, fails_tok, next_starts, next_takes, not_seq, seq_starts}
 use Rattle.ap_parse.proofs.StatementLemmas.{expected, past}
 
 alone : {v w : Value} → v ≡ w → v ∷ [] ≡ w ∷ []

@@ -16,15 +16,15 @@ use Rattle.ap_grammar.specs.Values.Value.{token, body, statement}
 use Rattle.ap_grammar.specs.Grammar.{Name, rule}
 use Rattle.ap_grammar.specs.Factored.{call, factored}
 use Rattle.ap_grammar.specs.Tables.{tables}
-use Rattle.ap_parse.specs.declared.cursor.Place.{Place}
-use Rattle.ap_parse.specs.declared.error.Stop.{Stop}
-use Rattle.ap_parse.specs.declared.error.Stop.TheVariants.{Syntax}
-use Rattle.ap_parse.specs.Reads.{Reads, IsAny, IsNext, IsPlace, Lacks, Leads}
-use Rattle.ap_parse.specs.Literals.{IsAtom}
+use Rattle.literal_parse.specs.declared.cursor.Place.{Place}
+use Rattle.literal_parse.specs.declared.error.Stop.{Stop}
+use Rattle.literal_parse.specs.declared.error.Stop.TheVariants.{Syntax}
+use Rattle.literal_parse.specs.Reads.{Reads, IsAny, IsNext, IsPlace, Lacks, Leads}
+use Rattle.literal_parse.specs.Literals.{IsAtom}
 use Rattle.ap_parse.specs.Bodies.{IsBody}
 use Rattle.ap_parse.specs.Heads.{IsHead}
 use Rattle.ap_parse.specs.Rules.{IsConstraint, IsOptionalBody, IsRule, IsRuleOf, optional_body}
-use Rattle.ap_parse.proofs.Steps.{taken, follow, fails_tok, giving, next_starts, next_takes, not_seq, seq_starts}
+use Rattle.literal_parse.proofs.Steps.{taken, follow, fails_tok, giving, next_starts, next_takes, not_seq, seq_starts}
 
 -- ---- bodies behind `:-`
 

@@ -19,13 +19,13 @@ use Rattle.ap_grammar.specs.Grammar.{Name, statements_of}
 use Rattle.ap_grammar.specs.Factored.{Part, Rhs, call, factored, base_opening, type_opening, opened, part_made}
 use Rattle.ap_grammar.specs.Tables.{tables}
 use Rattle.ap_grammar.proofs.Readable.{readable}
-use Rattle.ap_parse.specs.declared.error.Stop.{Stop}
+use Rattle.literal_parse.specs.declared.error.Stop.{Stop}
 use Rattle.ap_parse.specs.declared.openings.Opening.{Opening}
-use Rattle.ap_parse.specs.Reads.{Reads, Lacks}
+use Rattle.literal_parse.specs.Reads.{Reads, Lacks}
 use Rattle.ap_parse.specs.Openings.{IsOpening, IsPart, is_of_type, opening_form, opening_statement}
 use Rattle.ap_parse.specs.Sections.{IsMore, IsProgram, IsSection}
 use Rattle.ap_parse.specs.Statements.{IsStatement}
-use Rattle.ap_parse.proofs.Steps.{taken, follow, giving}
+use Rattle.literal_parse.proofs.Steps.{taken, follow, giving}
 
 -- ---- the statements among values
 

@@ -22,13 +22,13 @@ use Rattle.ap_grammar.specs.Values.Value.{token, term, statement}
 use Rattle.ap_grammar.specs.Grammar.{Name, made}
 use Rattle.ap_grammar.specs.Factored.{Rhs, call, factored}
 use Rattle.ap_grammar.specs.Tables.{tables}
-use Rattle.ap_parse.specs.declared.cursor.Place.{Place}
-use Rattle.ap_parse.specs.declared.error.Stop.{Stop}
-use Rattle.ap_parse.specs.declared.error.Stop.TheVariants.{Syntax}
-use Rattle.ap_parse.specs.Reads.{Reads, IsAny, IsName, IsNameKind, IsNext, IsPlace, Lacks}
+use Rattle.literal_parse.specs.declared.cursor.Place.{Place}
+use Rattle.literal_parse.specs.declared.error.Stop.{Stop}
+use Rattle.literal_parse.specs.declared.error.Stop.TheVariants.{Syntax}
+use Rattle.literal_parse.specs.Reads.{Reads, IsAny, IsName, IsNameKind, IsNext, IsPlace, Lacks}
 use Rattle.ap_parse.specs.Rules.{IsRule}
 use Rattle.ap_parse.specs.Statements.{IsConstant, IsNumber, IsOptionalSignature, IsSignature, IsStatement, signature}
-use Rattle.ap_parse.proofs.Steps.{taken, follow, giving, from, fails_from, fails_tok, next_starts, next_takes, not_seq, seq_starts}
+use Rattle.literal_parse.proofs.Steps.{taken, follow, giving, from, fails_from, fails_tok, next_starts, next_takes, not_seq, seq_starts}
 
 alone : {v w : Value} → v ≡ w → v ∷ [] ≡ w ∷ []
 alone e = ap (λ v. v ∷ []) e

@@ -17,12 +17,12 @@ use Rattle.ap_grammar.specs.Factored.{Rhs, call, core_made, factored, negated_ma
 use Rattle.ap_grammar.specs.Tables.{tables}
 use Rattle.ap_parse.specs.declared.bodies.Core.{Core}
 use Rattle.ap_parse.specs.declared.bodies.Core.TheVariants as cores
-use Rattle.ap_parse.specs.declared.error.Stop.{Stop}
-use Rattle.ap_parse.specs.declared.error.Stop.TheVariants.{Memory, Syntax}
-use Rattle.ap_parse.specs.declared.operand.Operand.{Operand}
-use Rattle.ap_parse.specs.declared.operand.Operand.TheVariants.{Bare, Other}
-use Rattle.ap_parse.specs.Operands.{value_of}
-use Rattle.ap_parse.specs.Reads.{Lacks, Leads}
+use Rattle.literal_parse.specs.declared.error.Stop.{Stop}
+use Rattle.literal_parse.specs.declared.error.Stop.TheVariants.{Memory, Syntax}
+use Rattle.literal_parse.specs.declared.operand.Operand.{Operand}
+use Rattle.literal_parse.specs.declared.operand.Operand.TheVariants.{Bare, Other}
+use Rattle.literal_parse.specs.Operands.{value_of}
+use Rattle.literal_parse.specs.Reads.{Lacks, Leads}
 
 -- ---- literals and aggregates
 

@@ -11,7 +11,7 @@ use Rattle.ap_grammar.specs.Lexemes.{Lexeme}
 use Rattle.ap_grammar.specs.Values.{Value, as_choice_element, as_left, as_right, collected, found}
 use Rattle.ap_grammar.specs.Grammar.{Name}
 use Rattle.ap_grammar.specs.Factored.{Rhs, call, many}
-use Rattle.ap_parse.specs.Reads.{Leads}
+use Rattle.literal_parse.specs.Reads.{Leads}
 
 abbrev pub IsChoiceElement : ChoiceElement → List Value → Type 0
 IsChoiceElement e vs = vs ≡ Value.choice_element e ∷ []

@@ -1,14 +1,9 @@
-pub mod Reads
-pub mod Operands
-pub mod Terms
-pub mod Literals
 pub mod Guards
 pub mod Choices
 pub mod Heads
 pub mod Bodies
 pub mod Rules
 pub mod Aggregates
-pub mod Strings
 pub mod Statements
 pub mod Openings
 pub mod Sections

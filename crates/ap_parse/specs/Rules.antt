@@ -11,7 +11,7 @@ use Rattle.ap_grammar.specs.Lexemes.{Lexeme}
 use Rattle.ap_grammar.specs.Values.{Value, as_body, found, or_empty}
 use Rattle.ap_grammar.specs.Grammar.{Name, made}
 use Rattle.ap_grammar.specs.Factored.{Rhs, call}
-use Rattle.ap_parse.specs.declared.cursor.Place.{Place}
+use Rattle.literal_parse.specs.declared.cursor.Place.{Place}
 
 abbrev pub IsRule : Rule → List Value → Type 0
 IsRule r vs = vs ≡ Value.statement (statements.Rule r) ∷ []

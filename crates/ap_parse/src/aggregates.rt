@@ -1,5 +1,5 @@
 // Aggregates.
-#![tactic(auto, using(crate::proofs::Steps::no_memory))]
+#![tactic(auto, using(literal_parse::proofs::Steps::no_memory))]
 
 ghost use Rattle.std.specs.Prelude.{◌≡◌, ◌∷◌, [], length, ◌≤◌};
 ghost use Rattle.grammar.specs.Form.{◌∣◌, opt};
@@ -9,15 +9,12 @@ ghost use Rattle.ap_grammar.specs.Grammar.{Name as names};
 ghost use Rattle.ap_grammar.specs.Factored.{Part as parts, aggregate_form, call, many};
 ghost use Rattle.ap_grammar.specs.Tables.{tables};
 ghost use Rattle.ap_parse.specs.Aggregates.{IsAggElement, IsAggElements, IsAggregate, IsFunction, braced};
-ghost use Rattle.ap_parse.specs.Reads.{Reads, Tells};
+ghost use Rattle.literal_parse.specs.Reads.{Reads, Tells};
 
-use crate::cursor::Cursor;
-use crate::error::Stop;
 use crate::guards::read_optional_guard;
-use crate::literals::{is_term_start, read_optional_condition};
-use crate::terms::read_terms;
 use ap_grammar::Terminal;
 use ap_syntax::{AggElement, Function, Guard};
+use literal_parse::{Cursor, Stop, is_term_start, read_optional_condition, read_terms};
 use sqlite_items::Items;
 use std::alloc::Global;
 

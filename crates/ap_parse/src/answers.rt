@@ -7,14 +7,14 @@ ghost use Rattle.ap_grammar.specs.Values.{Value};
 ghost use Rattle.ap_lexemes.specs.Texts.{in_type};
 ghost use Rattle.ap_lexemes.specs.Tokenizing.{IsTokenized, readable, tokens_of};
 ghost use Rattle.ap_parse.specs.Openings.{is_of_type};
-ghost use Rattle.ap_parse.specs.Reads.{Reads};
+ghost use Rattle.literal_parse.specs.Reads.{Reads};
 ghost use Rattle.ap_parse.specs.Sections.{IsProgram};
 ghost use Rattle.ap_parse.specs.Texts.{IsAnswer, IsReading};
 
 use crate::changes::changing;
-use crate::error::Stop;
 use ap_lexemes::{ParseFault, Tokenized};
 use ap_syntax::{PartKind, Program, Statement};
+use literal_parse::Stop;
 use sqlite_items::Items;
 use std::alloc::Global;
 

@@ -1,5 +1,5 @@
 // Bodies: literals, conditional literals and aggregates with separators between them.
-#![tactic(auto, using(crate::proofs::Steps::no_memory))]
+#![tactic(auto, using(literal_parse::proofs::Steps::no_memory))]
 
 ghost use Rattle.std.specs.Prelude.{◌≡◌, ◌∷◌, [], length, ◌≤◌};
 ghost use Rattle.grammar.specs.Form.{◌∣◌};
@@ -7,16 +7,12 @@ ghost use Rattle.grammar.specs.Form.Form.{Call};
 ghost use Rattle.ap_grammar.specs.Grammar.{Name as names};
 ghost use Rattle.ap_grammar.specs.Factored.{Part as parts, aggregate_form, call, core_behind, negated_behind};
 ghost use Rattle.ap_parse.specs.Bodies.{IsBehind, IsBody, IsCore, IsNegated, IsNegatedBehind, IsRelated, ReadsItem, Separates, kind_of};
-ghost use Rattle.ap_parse.specs.Reads.{Reads};
+ghost use Rattle.literal_parse.specs.Reads.{Reads};
 
 use crate::aggregates::{Aggregate, begins_aggregate, read_aggregate};
-use crate::cursor::Cursor;
-use crate::error::Stop;
-use crate::literals::{read_condition, relation};
-use crate::operand::Operand;
-use crate::terms::read_term;
 use ap_grammar::Terminal;
 use ap_syntax::{BodyItem, Guard, Literal, Rel, Term};
+use literal_parse::{Cursor, Operand, Stop, read_condition, read_term, relation};
 use sqlite_items::Items;
 use std::alloc::Global;
 

@@ -1,19 +1,17 @@
 // Choices: elements in braces, and the guard behind them.
-#![tactic(auto, using(crate::proofs::Steps::no_memory))]
+#![tactic(auto, using(literal_parse::proofs::Steps::no_memory))]
 
 ghost use Rattle.std.specs.Prelude.{◌≡◌, length, ◌≤◌};
 ghost use Rattle.ap_grammar.specs.Grammar.{Name as names};
 ghost use Rattle.ap_grammar.specs.Factored.{call, choice, Part as parts};
 ghost use Rattle.ap_grammar.specs.Tables.{tables};
 ghost use Rattle.ap_parse.specs.Choices.{braced, listed, IsBraced, IsChoice, IsChoiceElement, IsListed};
-ghost use Rattle.ap_parse.specs.Reads.{Reads, Tells};
+ghost use Rattle.literal_parse.specs.Reads.{Reads, Tells};
 
-use crate::cursor::Cursor;
-use crate::error::Stop;
 use crate::guards::read_optional_guard;
-use crate::literals::{read_atom, read_optional_condition};
 use ap_grammar::Terminal;
 use ap_syntax::{ChoiceElement, Guard, HeadForm};
+use literal_parse::{Cursor, Stop, read_atom, read_optional_condition};
 use sqlite_items::Items;
 use std::alloc::Global;
 

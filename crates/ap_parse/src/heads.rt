@@ -1,20 +1,17 @@
 // Heads of rules.
-#![tactic(auto, using(crate::proofs::Steps::no_memory))]
+#![tactic(auto, using(literal_parse::proofs::Steps::no_memory))]
 
 ghost use Rattle.std.specs.Prelude.{◌≡◌, length, ◌≤◌};
 ghost use Rattle.ap_grammar.specs.Grammar.{Name as names};
 ghost use Rattle.ap_grammar.specs.Factored.{call, Part as parts};
 ghost use Rattle.ap_grammar.specs.Tables.{tables};
 ghost use Rattle.ap_parse.specs.Heads.{IsHead};
-ghost use Rattle.ap_parse.specs.Reads.{Reads, Tells};
+ghost use Rattle.literal_parse.specs.Reads.{Reads, Tells};
 
 use crate::choices::read_choice;
-use crate::cursor::Cursor;
-use crate::error::Stop;
-use crate::literals::{is_term_start, relation};
-use crate::terms::read_term;
 use ap_grammar::Terminal;
 use ap_syntax::{Guard, HeadForm, Rel};
+use literal_parse::{Cursor, Stop, is_term_start, read_term, relation};
 use std::alloc::Global;
 
 // Whether a head begins with a token of this kind.

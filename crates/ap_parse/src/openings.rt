@@ -1,18 +1,17 @@
 // `#program`, and single statements.
-#![tactic(auto, using(crate::proofs::Steps::no_memory))]
+#![tactic(auto, using(literal_parse::proofs::Steps::no_memory))]
 
 ghost use Rattle.std.specs.Prelude.{◌≡◌, ◌++◌, IfOk, length, ◌≤◌};
 ghost use Rattle.ap_grammar.specs.Grammar.{Name as names};
 ghost use Rattle.ap_grammar.specs.Factored.{call};
 ghost use Rattle.ap_parse.specs.Openings.{IsKind, IsOpening, IsPart, is_of_type, opening_form, opening_statement, part_form};
-ghost use Rattle.ap_parse.specs.Reads.{Reads};
+ghost use Rattle.literal_parse.specs.Reads.{Reads};
 ghost use Rattle.ap_parse.specs.Statements.{IsStatement};
 
-use crate::cursor::{Cursor, Place};
-use crate::error::Stop;
 use crate::statements::{begins_statement, read_statement};
 use ap_grammar::Terminal;
 use ap_syntax::{PartKind, Statement, Text};
+use literal_parse::{Cursor, Place, Stop};
 use std::alloc::{AllocError, Global};
 
 /// A `#program`, with the place of its first token.

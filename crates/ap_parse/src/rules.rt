@@ -1,5 +1,5 @@
 // Rules.
-#![tactic(auto, using(crate::proofs::Steps::no_memory))]
+#![tactic(auto, using(literal_parse::proofs::Steps::no_memory))]
 
 ghost use Rattle.std.specs.Prelude.{length, ◌≤◌};
 ghost use Rattle.grammar.specs.Form.{◌⨾◌};
@@ -7,16 +7,14 @@ ghost use Rattle.grammar.specs.Form.Form.{Tok};
 ghost use Rattle.ap_grammar.specs.Grammar.{Name as names};
 ghost use Rattle.ap_grammar.specs.Factored.{call};
 ghost use Rattle.ap_grammar.specs.declared.terminals.Terminal.TheVariants.{Dot, If};
-ghost use Rattle.ap_parse.specs.Reads.{Reads};
+ghost use Rattle.literal_parse.specs.Reads.{Reads};
 ghost use Rattle.ap_parse.specs.Rules.{optional_body, IsConstraint, IsOptionalBody, IsRule, IsRuleOf};
 
 use crate::bodies::read_body;
-use crate::cursor::{Cursor, Place};
-use crate::error::Stop;
 use crate::heads::{begins_head, read_head};
-use crate::literals::read_atom;
 use ap_grammar::Terminal;
 use ap_syntax::{BodyItem, HeadForm, Rule};
+use literal_parse::{Cursor, Place, Stop, read_atom};
 use sqlite_items::Items;
 use std::alloc::Global;
 

@@ -1,19 +1,18 @@
 // Sections, and whole texts.
-#![tactic(auto, using(crate::proofs::Steps::no_memory))]
+#![tactic(auto, using(literal_parse::proofs::Steps::no_memory))]
 
 ghost use Rattle.std.specs.Prelude.{false, length, ◌≤◌};
 ghost use Rattle.grammar.specs.Form.Form.{Call, Star};
 ghost use Rattle.ap_grammar.specs.Grammar.{Name as names};
 ghost use Rattle.ap_grammar.specs.Factored.{call, Part as parts};
-ghost use Rattle.ap_parse.specs.Reads.{Reads};
+ghost use Rattle.literal_parse.specs.Reads.{Reads};
 ghost use Rattle.ap_parse.specs.Sections.{IsMore, IsProgram, IsSection};
 
-use crate::cursor::Cursor;
-use crate::error::Stop;
 use crate::openings::read_opening;
 use crate::statements::{begins_statement, read_statement};
 use ap_grammar::Terminal;
 use ap_syntax::Statement;
+use literal_parse::{Cursor, Stop};
 use sqlite_items::Items;
 use std::alloc::Global;
 

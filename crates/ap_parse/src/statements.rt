@@ -1,5 +1,5 @@
 // Statements other than preference statements and `#optimize`.
-#![tactic(auto, using(crate::proofs::Steps::no_memory))]
+#![tactic(auto, using(literal_parse::proofs::Steps::no_memory))]
 
 ghost use Rattle.std.specs.Prelude.{◌≡◌, false, length, ◌≤◌};
 ghost use Rattle.grammar.specs.Form.{opt};
@@ -8,16 +8,13 @@ ghost use Rattle.ap_grammar.specs.Grammar.{Name as names};
 ghost use Rattle.ap_grammar.specs.Factored.{call, Part as parts};
 ghost use Rattle.ap_grammar.specs.Tables.{tables};
 ghost use Rattle.ap_grammar.specs.declared.terminals.Terminal.TheVariants as terminals;
-ghost use Rattle.ap_parse.specs.Reads.{Reads, Tells};
+ghost use Rattle.literal_parse.specs.Reads.{Reads, Tells};
 ghost use Rattle.ap_parse.specs.Statements.{IsConstant, IsNumber, IsOptionalSignature, IsSignature, IsStatement, signature};
 
-use crate::cursor::Cursor;
-use crate::error::Stop;
-use crate::literals::is_term_start;
 use crate::rules::read_rule;
-use crate::strings::string;
 use ap_grammar::Terminal;
 use ap_syntax::{Statement, Term, Text};
+use literal_parse::{Cursor, Stop, is_term_start, string};
 use sqlite_items::Boxed;
 use std::alloc::Global;
 

@@ -14,13 +14,13 @@ ghost use Rattle.ap_lexemes.specs.Tokenizing.{tokens_of};
 ghost use Rattle.ap_parse.specs.Texts.{IsAnswer, IsParsed, IsStatementAt, is_dot, statement_len, statement_of};
 
 use crate::answers::{answer, is_of_type, program};
-use crate::cursor::Cursor;
 use crate::openings::read_one;
 use crate::sections::read_text;
 use ap_grammar::Terminal;
 use ap_lex::Token;
 use ap_lexemes::{ParseFault, Tokenized, lexemes, terminal, tokenize};
 use ap_syntax::{PartKind, Program, Statement};
+use literal_parse::Cursor;
 use std::alloc::Global;
 
 /// The program of a text of at most 16,777,216 bytes without preference statements, which begins in this part. A `#preference`

@@ -14,12 +14,12 @@ use Rattle.ap_grammar.specs.Values.Value.{token, ranked}
 use Rattle.ap_grammar.specs.Grammar.{Name, made}
 use Rattle.ap_grammar.specs.Factored.{Rhs, call, many, factored}
 use Rattle.ap_grammar.specs.Tables.{tables}
-use Rattle.ap_parse.specs.declared.cursor.Place.{Place}
-use Rattle.ap_parse.specs.declared.error.Stop.{Stop}
-use Rattle.ap_parse.specs.Reads.{Reads, IsAny, IsNext, IsPlace, Lacks, Leads}
-use Rattle.ap_parse.specs.Literals.{IsLiterals, IsOptionalCondition}
-use Rattle.ap_parse.proofs.Steps.{taken, follow, giving, from, fails_from, fails_tok, next_starts, next_takes, not_seq, seq_starts}
-use Rattle.ap_parse.proofs.Collects.{Collects, collected-append, collects_more, collects_fail, collects_end}
+use Rattle.literal_parse.specs.declared.cursor.Place.{Place}
+use Rattle.literal_parse.specs.declared.error.Stop.{Stop}
+use Rattle.literal_parse.specs.Reads.{Reads, IsAny, IsNext, IsPlace, Lacks, Leads}
+use Rattle.literal_parse.specs.Literals.{IsLiterals, IsOptionalCondition}
+use Rattle.literal_parse.proofs.Steps.{taken, follow, giving, from, fails_from, fails_tok, next_starts, next_takes, not_seq, seq_starts}
+use Rattle.literal_parse.proofs.Collects.{Collects, collected-append, collects_more, collects_fail, collects_end}
 use Rattle.pref_parse.specs.Ranks.{IsRanked}
 use Rattle.pref_parse.specs.Elements.{IsElement, IsElements, IsOptionalGiven, IsRanks, in_braces}
 use Rattle.pref_parse.proofs.Choices.{chosen, option_fails}

@@ -15,10 +15,10 @@ use Rattle.ap_grammar.specs.Values.Value.{token, formula}
 use Rattle.ap_grammar.specs.Grammar.{Name, made, member, conjunction_of, disjunction_of}
 use Rattle.ap_grammar.specs.Factored.{Rhs, call, factored, formula_rest}
 use Rattle.ap_grammar.specs.Tables.{tables}
-use Rattle.ap_parse.specs.declared.error.Stop.{Stop}
-use Rattle.ap_parse.specs.Reads.{Reads, IsAny, IsNext, Lacks, Leads}
-use Rattle.ap_parse.specs.Literals.{IsAtom}
-use Rattle.ap_parse.proofs.Steps.{taken, follow, giving, from, fails_from, fails_tok, next_starts, next_takes, not_seq, seq_starts}
+use Rattle.literal_parse.specs.declared.error.Stop.{Stop}
+use Rattle.literal_parse.specs.Reads.{Reads, IsAny, IsNext, Lacks, Leads}
+use Rattle.literal_parse.specs.Literals.{IsAtom}
+use Rattle.literal_parse.proofs.Steps.{taken, follow, giving, from, fails_from, fails_tok, next_starts, next_takes, not_seq, seq_starts}
 use Rattle.pref_parse.specs.Formulas.{IsConjunction, IsDisjunction, IsFormula, IsFormulaRest, IsJoined, IsUnit, Joins, unit}
 use Rattle.pref_parse.proofs.Choices.{chosen, choice_fails}
 

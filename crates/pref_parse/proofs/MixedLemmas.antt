@@ -19,15 +19,15 @@ use Rattle.ap_grammar.specs.Values.Value.{token, term}
 use Rattle.ap_grammar.specs.Grammar.{Name, member}
 use Rattle.ap_grammar.specs.Factored.{Part, Rhs, call, factored, behind_comma, front, front_group, front_made, term_more, term_rest, formula_rest, mixed_behind, inner_behind}
 use Rattle.ap_grammar.specs.Tables.{tables}
-use Rattle.ap_parse.specs.declared.error.Stop.{Stop}
-use Rattle.ap_parse.specs.declared.operand.Operand.{Operand}
-use Rattle.ap_parse.specs.declared.operand.Operand.TheVariants.{Bare}
-use Rattle.ap_parse.specs.declared.operand.Operand.TheVariants as operands
-use Rattle.ap_parse.specs.Reads.{Reads, IsAny, IsName, IsNameKind, IsNext, Lacks}
-use Rattle.ap_parse.specs.Operands.{IsOperand, term_of, tree_of}
-use Rattle.ap_parse.specs.Operands as operand
-use Rattle.ap_parse.specs.Terms.{IsArguments, IsTuple}
-use Rattle.ap_parse.proofs.Steps.{taken, follow, giving, from, fails_from, fails_tok, next_starts, next_takes, not_seq, seq_starts, stopped_syntax}
+use Rattle.literal_parse.specs.declared.error.Stop.{Stop}
+use Rattle.literal_parse.specs.declared.operand.Operand.{Operand}
+use Rattle.literal_parse.specs.declared.operand.Operand.TheVariants.{Bare}
+use Rattle.literal_parse.specs.declared.operand.Operand.TheVariants as operands
+use Rattle.literal_parse.specs.Reads.{Reads, IsAny, IsName, IsNameKind, IsNext, Lacks}
+use Rattle.literal_parse.specs.Operands.{IsOperand, term_of, tree_of}
+use Rattle.literal_parse.specs.Operands as operand
+use Rattle.literal_parse.specs.Terms.{IsArguments, IsTuple}
+use Rattle.literal_parse.proofs.Steps.{taken, follow, giving, from, fails_from, fails_tok, next_starts, next_takes, not_seq, seq_starts, stopped_syntax}
 use Rattle.pref_parse.specs.declared.mixed.Mixed.{Mixed}
 use Rattle.pref_parse.specs.declared.mixed.Mixed.TheVariants.{Either, Formed, Other}
 use Rattle.pref_parse.specs.Formulas.{IsFormulaRest, IsUnit, unit}

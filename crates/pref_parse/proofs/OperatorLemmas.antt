@@ -18,14 +18,14 @@ use Rattle.ap_grammar.specs.Values.Value.{token, term}
 use Rattle.ap_grammar.specs.Grammar.{Name}
 use Rattle.ap_grammar.specs.Factored.{Rhs, call, factored, factor, summand, range, term_rest, term_from, operated}
 use Rattle.ap_grammar.specs.Tables.{tables}
-use Rattle.ap_parse.specs.declared.error.Stop.{Stop}
-use Rattle.ap_parse.specs.declared.operand.Operand.{Operand}
-use Rattle.ap_parse.specs.declared.operand.Operand.TheVariants.{Bare, Other}
-use Rattle.ap_parse.specs.Reads.{Reads, IsNext, Lacks}
-use Rattle.ap_parse.specs.Operands.{IsOperand, tree_of, value_of}
-use Rattle.ap_parse.specs.Terms.{sum_terminal, product_terminal, Signs, Factors}
-use Rattle.ap_parse.proofs.Steps.{taken, follow, giving, next_starts, next_takes, not_seq, not_alt, seq_starts}
-use Rattle.ap_parse.proofs.Sums.{takes_sum_sign, sum_sign_starts, takes_product_sign, product_sign_starts}
+use Rattle.literal_parse.specs.declared.error.Stop.{Stop}
+use Rattle.literal_parse.specs.declared.operand.Operand.{Operand}
+use Rattle.literal_parse.specs.declared.operand.Operand.TheVariants.{Bare, Other}
+use Rattle.literal_parse.specs.Reads.{Reads, IsNext, Lacks}
+use Rattle.literal_parse.specs.Operands.{IsOperand, tree_of, value_of}
+use Rattle.literal_parse.specs.Terms.{sum_terminal, product_terminal, Signs, Factors}
+use Rattle.literal_parse.proofs.Steps.{taken, follow, giving, next_starts, next_takes, not_seq, not_alt, seq_starts}
+use Rattle.literal_parse.proofs.Sums.{takes_sum_sign, sum_sign_starts, takes_product_sign, product_sign_starts}
 use Rattle.pref_parse.specs.Operators.{Operates}
 
 pub operates_all : {x y z : Term} {us vs : List Value} → Operates x y us → Operates y z vs → Operates x z (us ++ vs)

@@ -18,15 +18,15 @@ use Rattle.ap_grammar.specs.Values.Value.{token, ranked}
 use Rattle.ap_grammar.specs.Grammar.{Name}
 use Rattle.ap_grammar.specs.Factored.{Part, Rhs, call, factored, ranked_behind, weights_rest}
 use Rattle.ap_grammar.specs.Tables.{tables}
-use Rattle.ap_parse.specs.declared.error.Stop.{Stop}
-use Rattle.ap_parse.specs.declared.operand.Operand.{Operand}
-use Rattle.ap_parse.specs.declared.operand.Operand.TheVariants.{Bare}
-use Rattle.ap_parse.specs.declared.operand.Operand.TheVariants as operands
-use Rattle.ap_parse.specs.Reads.{Reads, IsAny, IsName, IsNext, Lacks}
-use Rattle.ap_parse.specs.Operands.{IsOperand, term_of, tree_of}
-use Rattle.ap_parse.specs.Operands as operand
-use Rattle.ap_parse.proofs.Steps.{taken, follow, giving, from, fails_from, fails_tok, next_starts, next_takes, not_seq, seq_starts}
-use Rattle.ap_parse.proofs.Collects.{collected-append}
+use Rattle.literal_parse.specs.declared.error.Stop.{Stop}
+use Rattle.literal_parse.specs.declared.operand.Operand.{Operand}
+use Rattle.literal_parse.specs.declared.operand.Operand.TheVariants.{Bare}
+use Rattle.literal_parse.specs.declared.operand.Operand.TheVariants as operands
+use Rattle.literal_parse.specs.Reads.{Reads, IsAny, IsName, IsNext, Lacks}
+use Rattle.literal_parse.specs.Operands.{IsOperand, term_of, tree_of}
+use Rattle.literal_parse.specs.Operands as operand
+use Rattle.literal_parse.proofs.Steps.{taken, follow, giving, from, fails_from, fails_tok, next_starts, next_takes, not_seq, seq_starts}
+use Rattle.literal_parse.proofs.Collects.{collected-append}
 use Rattle.pref_parse.specs.declared.mixed.Mixed.{Mixed}
 use Rattle.pref_parse.specs.declared.mixed.Mixed.TheVariants.{Formed, Other}
 use Rattle.pref_parse.specs.Formulas.{IsFormula}

@@ -17,7 +17,7 @@ use Rattle.ap_grammar.specs.Grammar.{Name, conjunction_of, disjunction_of}
 use Rattle.ap_grammar.specs.Factored.{Rhs, call, factored, factor, summand, range, term_rest, term_more, formula_rest, formula_from, joined_by, is_or, mixed_made}
 use Rattle.std.specs.Bool.{beq}
 use Rattle.ap_grammar.specs.Tables.{tables}
-use Rattle.ap_parse.proofs.Steps.{giving, not_seq, seq_starts}
+use Rattle.literal_parse.proofs.Steps.{giving, not_seq, seq_starts}
 use Rattle.pref_parse.specs.Formulas.{IsFormulaRest, Joins}
 use Rattle.pref_parse.specs.Operators.{Operates}
 use Rattle.pref_parse.proofs.Choices.{taken_starts}

@@ -14,10 +14,10 @@ use Rattle.ap_grammar.specs.Grammar.{Name, primary}
 use Rattle.ap_grammar.specs.Factored.{Rhs, call, factored, front}
 use Rattle.ap_grammar.specs.Tables.{tables}
 use Rattle.ap_grammar.proofs.Predictive.{same_is}
-use Rattle.ap_parse.specs.declared.operand.Operand.{Operand}
-use Rattle.ap_parse.specs.declared.operand.Operand.TheVariants.{Bare, Other}
-use Rattle.ap_parse.specs.Reads.{Lacks}
-use Rattle.ap_parse.specs.Operands.{tree_of, value_of}
+use Rattle.literal_parse.specs.declared.operand.Operand.{Operand}
+use Rattle.literal_parse.specs.declared.operand.Operand.TheVariants.{Bare, Other}
+use Rattle.literal_parse.specs.Reads.{Lacks}
+use Rattle.literal_parse.specs.Operands.{tree_of, value_of}
 use Rattle.pref_parse.specs.Mixed.{simple}
 
 pub data IsSimpleKind : Terminal → Type 0 where

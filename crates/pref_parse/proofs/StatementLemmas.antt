@@ -15,14 +15,14 @@ use Rattle.ap_grammar.specs.Grammar.{Name}
 use Rattle.ap_grammar.specs.Factored.{Part, call, factored}
 use Rattle.ap_grammar.specs.Tables.{tables}
 use Rattle.ap_grammar.proofs.Predictive.{same_is}
-use Rattle.ap_parse.specs.declared.cursor.Place.{Place}
-use Rattle.ap_parse.specs.declared.error.Stop.{Stop}
-use Rattle.ap_parse.specs.Reads.{Reads, IsAny, IsName, IsNext, IsPlace, Lacks}
+use Rattle.literal_parse.specs.declared.cursor.Place.{Place}
+use Rattle.literal_parse.specs.declared.error.Stop.{Stop}
+use Rattle.literal_parse.specs.Reads.{Reads, IsAny, IsName, IsNext, IsPlace, Lacks}
 use Rattle.ap_parse.specs.Openings.{IsKind}
 use Rattle.ap_parse.specs.Statements.{IsStatement}
-use Rattle.ap_parse.proofs.Steps.{taken, follow, giving, fails_tok, next_takes, not_same}
+use Rattle.literal_parse.proofs.Steps.{taken, follow, giving, fails_tok, next_takes, not_same}
 use Rattle.ap_parse.proofs.StatementLemmas.{expected}
-use Rattle.ap_parse.proofs.Collects.{collected-append}
+use Rattle.literal_parse.proofs.Collects.{collected-append}
 use Rattle.pref_parse.specs.Elements.{IsElements, in_braces}
 use Rattle.pref_parse.specs.Statements.{IsPreference}
 use Rattle.pref_parse.proofs.Choices.{chosen, choice_fails}

@@ -9,7 +9,7 @@ use Rattle.ap_grammar.specs.Lexemes.{Lexeme}
 use Rattle.ap_grammar.specs.Values.{Value, as_condition, as_element, as_given, as_ranked, collected, first_of, found}
 use Rattle.ap_grammar.specs.Grammar.{Name}
 use Rattle.ap_grammar.specs.Factored.{Rhs, call, many}
-use Rattle.ap_parse.specs.Reads.{Leads}
+use Rattle.literal_parse.specs.Reads.{Leads}
 
 -- the ranks among the values, the first of which brings the first token, and nothing else that an element has
 pub record IsRanks (old : List Lexeme) (ranks : List Ranked) (vs : List Value) : Type 0 where

@@ -11,8 +11,8 @@ use Rattle.ap_grammar.specs.Lexemes.{Lexeme}
 use Rattle.ap_grammar.specs.Values.{Value}
 use Rattle.ap_grammar.specs.Grammar.{Name, conjunction_of, disjunction_of}
 use Rattle.ap_grammar.specs.Factored.{Rhs, call}
-use Rattle.ap_parse.specs.Reads.{Leads}
-use Rattle.ap_parse.specs.Literals.{Brings}
+use Rattle.literal_parse.specs.Reads.{Leads}
+use Rattle.literal_parse.specs.Literals.{Brings}
 
 abbrev pub IsFormula : List Lexeme → Formula → List Value → Type 0
 IsFormula old f vs = Brings old (λ first. Value.formula first f) vs

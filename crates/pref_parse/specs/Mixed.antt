@@ -8,10 +8,10 @@ use Rattle.ap_grammar.specs.declared.terminals.Terminal.TheVariants as t
 use Rattle.ap_grammar.specs.Lexemes.{Lexeme}
 use Rattle.ap_grammar.specs.Values.{Value, Class}
 use Rattle.ap_grammar.specs.Factored.{Part, Rhs, front_group, inner_behind, mixed_made}
-use Rattle.ap_parse.specs.declared.error.Stop.{Stop}
-use Rattle.ap_parse.specs.declared.error.Stop.TheVariants.{Syntax}
-use Rattle.ap_parse.specs.Literals.{Brings}
-use Rattle.ap_parse.specs.Operands.{term_of}
+use Rattle.literal_parse.specs.declared.error.Stop.{Stop}
+use Rattle.literal_parse.specs.declared.error.Stop.TheVariants.{Syntax}
+use Rattle.literal_parse.specs.Literals.{Brings}
+use Rattle.literal_parse.specs.Operands.{term_of}
 use Rattle.pref_parse.specs.declared.mixed.Mixed.{Mixed}
 use Rattle.pref_parse.specs.declared.mixed.Mixed.TheVariants.{Either, Formed, Other}
 

@@ -10,7 +10,7 @@ use Rattle.ap_grammar.specs.Lexemes.{Lexeme}
 use Rattle.ap_grammar.specs.Values.{Value, as_target, as_term, collected, found}
 use Rattle.ap_grammar.specs.Grammar.{Name, or_nothing}
 use Rattle.ap_grammar.specs.Factored.{Rhs, call, ranked_made}
-use Rattle.ap_parse.specs.Literals.{Brings}
+use Rattle.literal_parse.specs.Literals.{Brings}
 use Rattle.pref_parse.specs.declared.mixed.Mixed.{Mixed}
 use Rattle.pref_parse.specs.Mixed.{value_of}
 

@@ -1,18 +1,18 @@
 // Elements of preference statements.
-#![tactic(auto, using(ap_parse::proofs::Steps::no_memory))]
+#![tactic(auto, using(literal_parse::proofs::Steps::no_memory))]
 
 ghost use Rattle.std.specs.Prelude.{length, ◌≤◌};
 ghost use Rattle.grammar.specs.Form.{opt};
 ghost use Rattle.ap_grammar.specs.declared.terminals.Terminal.TheVariants.{Better, Semicolon};
 ghost use Rattle.ap_grammar.specs.Grammar.{Name as names};
 ghost use Rattle.ap_grammar.specs.Factored.{call, many};
-ghost use Rattle.ap_parse.specs.Literals.{IsOptionalCondition};
-ghost use Rattle.ap_parse.specs.Reads.{Reads};
+ghost use Rattle.literal_parse.specs.Literals.{IsOptionalCondition};
+ghost use Rattle.literal_parse.specs.Reads.{Reads};
 ghost use Rattle.pref_parse.specs.Elements.{IsElement, IsElements, IsOptionalGiven, IsRanks, in_braces};
 
 use crate::ranked::read_ranked;
 use ap_grammar::Terminal;
-use ap_parse::{Cursor, Stop, read_literals};
+use literal_parse::{Cursor, Stop, read_literals};
 use ap_syntax::{Element, Literal, Ranked};
 use sqlite_items::Items;
 use std::alloc::Global;

@@ -4,7 +4,8 @@ ghost use Rattle.pref_parse.specs.Readings.{IsReading};
 
 use crate::sections::read_text;
 use ap_lexemes::{ParseFault, tokenize};
-use ap_parse::{Cursor, program};
+use ap_parse::program;
+use literal_parse::Cursor;
 use ap_syntax::{PartKind, Program};
 use std::alloc::Global;
 

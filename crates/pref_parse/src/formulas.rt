@@ -1,5 +1,5 @@
 // Formulas.
-#![tactic(auto, using(ap_parse::proofs::Steps::no_memory))]
+#![tactic(auto, using(literal_parse::proofs::Steps::no_memory))]
 
 ghost use Rattle.std.specs.Prelude.{◌≡◌, length, ◌≤◌};
 ghost use Rattle.grammar.specs.Form.{◌⨾◌};
@@ -9,11 +9,11 @@ ghost use Rattle.ap_grammar.specs.declared.terminals.Terminal.TheVariants.{And, 
 ghost use Rattle.ap_grammar.specs.Grammar.{Name as names, conjunction_of, disjunction_of};
 ghost use Rattle.ap_grammar.specs.Factored.{call, formula_rest};
 ghost use Rattle.ap_grammar.specs.Tables.{tables};
-ghost use Rattle.ap_parse.specs.Reads.{Reads, Tells};
+ghost use Rattle.literal_parse.specs.Reads.{Reads, Tells};
 ghost use Rattle.pref_parse.specs.Formulas.{IsConjunction, IsDisjunction, IsFormula, IsFormulaRest, IsUnit, unit};
 
 use ap_grammar::Terminal;
-use ap_parse::{Cursor, Stop, read_atom};
+use literal_parse::{Cursor, Stop, read_atom};
 use ap_syntax::Formula;
 use sqlite_items::{Boxed, Items};
 use std::alloc::Global;

@@ -1,5 +1,5 @@
 // What may be a term or a formula: how a rank begins.
-#![tactic(auto, using(ap_parse::proofs::Steps::no_memory))]
+#![tactic(auto, using(literal_parse::proofs::Steps::no_memory))]
 
 ghost use Rattle.std.specs.Prelude.{◌≡◌, length, ◌≤◌};
 ghost use Rattle.grammar.specs.Form.Form.{Call};
@@ -7,13 +7,13 @@ ghost use Rattle.grammar.specs.Tables.{starts};
 ghost use Rattle.ap_grammar.specs.Factored.{Part as parts, inner_behind, mixed_behind};
 ghost use Rattle.ap_grammar.specs.Tables.{tables};
 ghost use Rattle.ap_grammar.specs.Values.Class.{Either};
-ghost use Rattle.ap_parse.specs.Reads.{Reads, Tells};
+ghost use Rattle.literal_parse.specs.Reads.{Reads, Tells};
 ghost use Rattle.pref_parse.specs.Mixed.{IsInner, IsInnerRest, IsMixed, IsMixedRest, TermOr, class_of, either, inner, simple};
 
 use crate::formulas::{begins_connective, read_formula_rest, read_unit};
 use crate::operators::{begins_operator, read_term_rest};
 use ap_grammar::Terminal;
-use ap_parse::{Cursor, Operand, Stop, read_arguments, read_primary, read_tuple};
+use literal_parse::{Cursor, Operand, Stop, read_arguments, read_primary, read_tuple};
 use ap_syntax::{Atom, Formula, Term};
 use sqlite_items::{Boxed, Items};
 use std::alloc::Global;

@@ -1,5 +1,5 @@
 // What stands behind the first primary term of a term.
-#![tactic(auto, using(ap_parse::proofs::Steps::no_memory))]
+#![tactic(auto, using(literal_parse::proofs::Steps::no_memory))]
 
 ghost use Rattle.std.specs.Prelude.{◌≡◌, length, ◌≤◌};
 ghost use Rattle.grammar.specs.Form.{opt};
@@ -7,11 +7,11 @@ ghost use Rattle.grammar.specs.Form.Form.{Star};
 ghost use Rattle.grammar.specs.Tables.{starts};
 ghost use Rattle.ap_grammar.specs.Factored.{factor, range, summand, term_more, term_rest};
 ghost use Rattle.ap_grammar.specs.Tables.{tables};
-ghost use Rattle.ap_parse.specs.Reads.{Reads, Tells};
+ghost use Rattle.literal_parse.specs.Reads.{Reads, Tells};
 ghost use Rattle.pref_parse.specs.Operators.{Operates};
 
 use ap_grammar::Terminal;
-use ap_parse::{Cursor, Stop, product_sign, read_product, read_sum, read_unary, sum_sign};
+use literal_parse::{Cursor, Stop, product_sign, read_product, read_sum, read_unary, sum_sign};
 use ap_syntax::Term;
 use sqlite_items::Boxed;
 use std::alloc::Global;

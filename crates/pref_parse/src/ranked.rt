@@ -1,5 +1,5 @@
 // Ranks of elements.
-#![tactic(auto, using(ap_parse::proofs::Steps::no_memory))]
+#![tactic(auto, using(literal_parse::proofs::Steps::no_memory))]
 
 ghost use Rattle.std.specs.Prelude.{◌≡◌, [], length, ◌≤◌};
 ghost use Rattle.grammar.specs.Form.{opt};
@@ -8,14 +8,14 @@ ghost use Rattle.grammar.specs.Tables.{starts};
 ghost use Rattle.ap_grammar.specs.Grammar.{Name as names};
 ghost use Rattle.ap_grammar.specs.Factored.{call, ranked_behind, weights_rest};
 ghost use Rattle.ap_grammar.specs.Tables.{tables};
-ghost use Rattle.ap_parse.specs.Reads.{Reads, Tells};
+ghost use Rattle.literal_parse.specs.Reads.{Reads, Tells};
 ghost use Rattle.pref_parse.specs.Mixed.{class_of, either};
 ghost use Rattle.pref_parse.specs.Ranks.{IsRanked, IsRankedRest, IsTarget, IsWeighed, IsWeights, weight_item};
 
 use crate::formulas::read_formula;
 use crate::mixed::{Mixed, read_mixed};
 use ap_grammar::Terminal;
-use ap_parse::{Cursor, Operand, Stop, read_term};
+use literal_parse::{Cursor, Operand, Stop, read_term};
 use ap_syntax::{Atom, Formula, Ranked, Target, Term};
 use sqlite_items::Items;
 use std::alloc::Global;

@@ -1,16 +1,17 @@
 // Sections, and whole texts.
-#![tactic(auto, using(ap_parse::proofs::Steps::no_memory))]
+#![tactic(auto, using(literal_parse::proofs::Steps::no_memory))]
 
 ghost use Rattle.std.specs.Prelude.{true, length, ◌≤◌};
 ghost use Rattle.grammar.specs.Form.Form.{Call, Star};
 ghost use Rattle.ap_grammar.specs.Grammar.{Name as names};
 ghost use Rattle.ap_grammar.specs.Factored.{call, Part as parts};
-ghost use Rattle.ap_parse.specs.Reads.{Reads};
+ghost use Rattle.literal_parse.specs.Reads.{Reads};
 ghost use Rattle.ap_parse.specs.Sections.{IsMore, IsProgram, IsSection};
 
 use crate::statements::{begins_any, read_any};
 use ap_grammar::Terminal;
-use ap_parse::{Cursor, Stop, read_opening};
+use ap_parse::read_opening;
+use literal_parse::{Cursor, Stop};
 use ap_syntax::Statement;
 use sqlite_items::Items;
 use std::alloc::Global;

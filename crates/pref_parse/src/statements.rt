@@ -1,17 +1,18 @@
 // Preference statements, `#optimize`, and statements of all kinds.
-#![tactic(auto, using(ap_parse::proofs::Steps::no_memory))]
+#![tactic(auto, using(literal_parse::proofs::Steps::no_memory))]
 
 ghost use Rattle.std.specs.Prelude.{◌≡◌, true, length, ◌≤◌};
 ghost use Rattle.ap_grammar.specs.Grammar.{Name as names};
 ghost use Rattle.ap_grammar.specs.Factored.{call, Part as parts};
 ghost use Rattle.ap_grammar.specs.Tables.{tables};
-ghost use Rattle.ap_parse.specs.Reads.{Reads, Tells};
+ghost use Rattle.literal_parse.specs.Reads.{Reads, Tells};
 ghost use Rattle.ap_parse.specs.Statements.{IsStatement};
 ghost use Rattle.pref_parse.specs.Statements.{IsPreference};
 
 use crate::elements::read_elements;
 use ap_grammar::Terminal;
-use ap_parse::{Cursor, Stop, is_statement_start, read_kind, read_statement};
+use ap_parse::{is_statement_start, read_kind, read_statement};
+use literal_parse::{Cursor, Stop};
 use ap_syntax::{Preference, Statement};
 use std::alloc::Global;
 

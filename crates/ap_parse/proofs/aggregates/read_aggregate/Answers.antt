@@ -1,5 +1,5 @@
 use Rattle.grammar.specs.Takes.{Fails}
-use Rattle.ap_parse.proofs.Steps.{exit}
+use Rattle.literal_parse.proofs.Steps.{exit}
 use Rattle.ap_parse.proofs.AggregateLemmas.{aggregate_braces_fail, aggregate_guard_fails, aggregate_read}
 use Rattle.ap_parse.proofs.aggregates.read_aggregate.Goals as goal
 

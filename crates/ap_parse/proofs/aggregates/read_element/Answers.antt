@@ -1,5 +1,5 @@
 use Rattle.grammar.specs.Takes.{Fails}
-use Rattle.ap_parse.proofs.Steps.{exit}
+use Rattle.literal_parse.proofs.Steps.{exit}
 use Rattle.ap_parse.proofs.AggregateLemmas.{element_fails, element_read}
 use Rattle.ap_parse.proofs.aggregates.read_element.Goals as goal
 

@@ -1,6 +1,6 @@
 use Rattle.std.proofs.Common.{length, ◌≤◌}
 use Rattle.ap_grammar.specs.Values.{as_agg_element}
-use Rattle.ap_parse.proofs.Collects.{Collects}
+use Rattle.literal_parse.proofs.Collects.{Collects}
 use Rattle.ap_parse.proofs.AggregateLemmas.{ElementItem}
 use Rattle.ap_parse.proofs.aggregates.read_elements.Given as goal
 

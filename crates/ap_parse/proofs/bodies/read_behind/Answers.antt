@@ -1,4 +1,4 @@
-use Rattle.ap_parse.proofs.Steps.{exit}
+use Rattle.literal_parse.proofs.Steps.{exit}
 use Rattle.ap_parse.proofs.BodyLemmas.{behind_related, behind_aggregate_fails, behind_aggregate, behind_bare, behind_other}
 use Rattle.ap_parse.proofs.bodies.read_behind.Goals as goal
 

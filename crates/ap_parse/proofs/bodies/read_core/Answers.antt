@@ -1,4 +1,4 @@
-use Rattle.ap_parse.proofs.Steps.{exit}
+use Rattle.literal_parse.proofs.Steps.{exit}
 use Rattle.ap_parse.proofs.BodyLemmas.{core_negated, core_aggregate_fails, core_aggregate, core_term_fails, core_term}
 use Rattle.ap_parse.proofs.bodies.read_core.Goals as goal
 

@@ -1,4 +1,4 @@
-use Rattle.ap_parse.proofs.Steps.{exit}
+use Rattle.literal_parse.proofs.Steps.{exit}
 use Rattle.ap_parse.proofs.BodyLemmas.{negated_aggregate_fails, negated_aggregate, negated_term_fails, negated_term}
 use Rattle.ap_parse.proofs.bodies.read_negated.Goals as goal
 

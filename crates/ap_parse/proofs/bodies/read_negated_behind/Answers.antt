@@ -1,4 +1,4 @@
-use Rattle.ap_parse.proofs.Steps.{exit}
+use Rattle.literal_parse.proofs.Steps.{exit}
 use Rattle.ap_parse.proofs.BodyLemmas.{not_related_fails, not_related, not_aggregate_fails, not_aggregate, not_bare, not_other}
 use Rattle.ap_parse.proofs.bodies.read_negated_behind.Goals as goal
 

@@ -1,4 +1,4 @@
-use Rattle.ap_parse.proofs.Steps.{exit}
+use Rattle.literal_parse.proofs.Steps.{exit}
 use Rattle.ap_parse.proofs.BodyLemmas.{related_aggregate_fails, related_aggregate, related_term_fails, related_term}
 use Rattle.ap_parse.proofs.bodies.read_related.Goals as goal
 

@@ -1,5 +1,5 @@
 use Rattle.grammar.specs.Takes.{Fails}
-use Rattle.ap_parse.proofs.Steps.{exit, next_takes}
+use Rattle.literal_parse.proofs.Steps.{exit, next_takes}
 use Rattle.ap_parse.proofs.ChoiceLemmas.{brace_fails, close_fails, braced_read}
 use Rattle.ap_parse.proofs.choices.read_braced.Goals as goal
 

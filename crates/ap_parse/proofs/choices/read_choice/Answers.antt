@@ -1,5 +1,5 @@
 use Rattle.grammar.specs.Takes.{Fails}
-use Rattle.ap_parse.proofs.Steps.{exit}
+use Rattle.literal_parse.proofs.Steps.{exit}
 use Rattle.ap_parse.proofs.ChoiceLemmas.{right_fails, choice_read}
 use Rattle.ap_parse.proofs.choices.read_choice.Goals as goal
 

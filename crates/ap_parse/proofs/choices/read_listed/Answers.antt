@@ -1,6 +1,6 @@
 use Rattle.std.proofs.Common.{arith}
 use Rattle.std.proofs.lemmas.Grind.{common_steps}
-use Rattle.ap_parse.proofs.Steps.{exit}
+use Rattle.literal_parse.proofs.Steps.{exit}
 use Rattle.ap_parse.proofs.ChoiceLemmas.{elements_begun, elements_more, listed_none, listed_first_fails, listed_fails, listed_read}
 use Rattle.ap_parse.proofs.choices.read_listed.Goals as goal
 

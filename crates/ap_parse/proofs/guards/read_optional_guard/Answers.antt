@@ -1,5 +1,5 @@
 use Rattle.grammar.specs.Takes.{Fails}
-use Rattle.ap_parse.proofs.Steps.{exit}
+use Rattle.literal_parse.proofs.Steps.{exit}
 use Rattle.ap_parse.proofs.GuardLemmas.{guard_absent, guard_present}
 use Rattle.ap_parse.proofs.guards.read_optional_guard.Goals as goal
 

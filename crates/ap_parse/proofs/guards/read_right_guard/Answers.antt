@@ -1,4 +1,4 @@
-use Rattle.ap_parse.proofs.Steps.{exit}
+use Rattle.literal_parse.proofs.Steps.{exit}
 use Rattle.ap_parse.proofs.GuardLemmas.{guard_fails, guard_read}
 use Rattle.ap_parse.proofs.guards.read_right_guard.Goals as goal
 

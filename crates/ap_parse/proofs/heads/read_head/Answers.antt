@@ -1,4 +1,4 @@
-use Rattle.ap_parse.proofs.Steps.{exit}
+use Rattle.literal_parse.proofs.Steps.{exit}
 use Rattle.ap_parse.proofs.HeadLemmas.{choice_alone, term_fails, signed_choice, unsigned_choice, atom_alone, not_atom}
 use Rattle.ap_parse.proofs.heads.read_head.Goals as goal
 

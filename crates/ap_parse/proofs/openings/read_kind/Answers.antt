@@ -1,5 +1,5 @@
 use Rattle.grammar.specs.Takes.{Fails}
-use Rattle.ap_parse.proofs.Steps.{exit}
+use Rattle.literal_parse.proofs.Steps.{exit}
 use Rattle.ap_parse.proofs.OpeningLemmas.{name_kind, inner_kind_fails, kind_not_closed, kind_with_inner}
 use Rattle.ap_parse.proofs.openings.read_kind.Goals as goal
 

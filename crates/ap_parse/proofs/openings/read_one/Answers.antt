@@ -1,4 +1,4 @@
-use Rattle.ap_parse.proofs.Steps.{exit}
+use Rattle.literal_parse.proofs.Steps.{exit}
 use Rattle.ap_parse.proofs.OpeningLemmas.{one_statement, one_opening_fails, one_opening}
 use Rattle.ap_parse.proofs.openings.read_one.Goals as goal
 

@@ -1,5 +1,5 @@
 use Rattle.grammar.specs.Takes.{Fails}
-use Rattle.ap_parse.proofs.Steps.{exit}
+use Rattle.literal_parse.proofs.Steps.{exit}
 use Rattle.ap_parse.proofs.StatementLemmas.{past}
 use Rattle.ap_parse.proofs.OpeningLemmas.{opening_read}
 use Rattle.ap_parse.proofs.openings.read_opening.Goals as goal

@@ -1,5 +1,5 @@
 use Rattle.grammar.specs.Takes.{Fails}
-use Rattle.ap_parse.proofs.Steps.{exit}
+use Rattle.literal_parse.proofs.Steps.{exit}
 use Rattle.ap_parse.proofs.StatementLemmas.{past}
 use Rattle.ap_parse.proofs.OpeningLemmas.{base_dot_fails, base_part, type_part_fails, type_part}
 use Rattle.ap_parse.proofs.openings.read_part.Goals as goal

@@ -1,5 +1,5 @@
 use Rattle.grammar.specs.Takes.{Fails}
-use Rattle.ap_parse.proofs.Steps.{exit, next_takes}
+use Rattle.literal_parse.proofs.Steps.{exit, next_takes}
 use Rattle.ap_parse.proofs.RuleLemmas.{if_lacking, constraint_dot_fails, constraint_read}
 use Rattle.ap_parse.proofs.rules.read_constraint.Goals as goal
 

@@ -1,5 +1,5 @@
 use Rattle.grammar.specs.Takes.{Fails}
-use Rattle.ap_parse.proofs.Steps.{exit}
+use Rattle.literal_parse.proofs.Steps.{exit}
 use Rattle.ap_parse.proofs.RuleLemmas.{dot_fails, rest_read}
 use Rattle.ap_parse.proofs.rules.read_rest.Goals as goal
 

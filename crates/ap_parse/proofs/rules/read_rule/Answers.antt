@@ -1,5 +1,5 @@
 use Rattle.grammar.specs.Takes.{Fails}
-use Rattle.ap_parse.proofs.Steps.{exit}
+use Rattle.literal_parse.proofs.Steps.{exit}
 use Rattle.ap_parse.proofs.RuleLemmas.{constraint_rule, head_fails, headed_rule, atom_rule}
 use Rattle.ap_parse.proofs.rules.read_rule.Goals as goal
 

@@ -1,5 +1,5 @@
 use Rattle.std.proofs.Common.{false, ◌∷◌, ◌++◌, [], ◌∙◌, ap}
-use Rattle.ap_parse.proofs.Steps.{exit}
+use Rattle.literal_parse.proofs.Steps.{exit}
 use Rattle.ap_parse.proofs.SectionLemmas.{section_opening_fails, section_read}
 use Rattle.ap_parse.proofs.sections.read_section.Goals as goal
 

@@ -1,6 +1,6 @@
 use Rattle.std.proofs.Common.{false, arith}
 use Rattle.std.proofs.lemmas.Grind.{common_steps}
-use Rattle.ap_parse.proofs.Steps.{exit}
+use Rattle.literal_parse.proofs.Steps.{exit}
 use Rattle.ap_parse.proofs.SectionLemmas.{grows_more, grows_fail, grows_end, statement_shorter}
 use Rattle.ap_parse.proofs.sections.read_statements.Goals as goal
 

@@ -1,6 +1,6 @@
 use Rattle.std.proofs.Common.{false, arith}
 use Rattle.std.proofs.lemmas.Grind.{common_steps}
-use Rattle.ap_parse.proofs.Steps.{exit}
+use Rattle.literal_parse.proofs.Steps.{exit}
 use Rattle.ap_parse.proofs.SectionLemmas.{sections_more, section_shorter, text_fails, text_section_fails, text_read}
 use Rattle.ap_parse.proofs.sections.read_text.Goals as goal
 

@@ -1,5 +1,5 @@
 use Rattle.grammar.specs.Takes.{Fails}
-use Rattle.ap_parse.proofs.Steps.{exit}
+use Rattle.literal_parse.proofs.Steps.{exit}
 use Rattle.ap_parse.proofs.StatementLemmas.{past, const_read}
 use Rattle.ap_parse.proofs.statements.read_const.Goals as goal
 

@@ -1,6 +1,6 @@
 use Rattle.std.proofs.Common.{◌∙◌, ap}
 use Rattle.ap_grammar.specs.Lexemes.{string_of}
-use Rattle.ap_parse.proofs.Steps.{exit}
+use Rattle.literal_parse.proofs.Steps.{exit}
 use Rattle.ap_parse.proofs.StatementLemmas.{opposite_fails, opposite_read, number_constant, name_constant_fails, name_constant, string_constant, no_constant}
 use Rattle.ap_parse.proofs.statements.read_constant.Goals as goal
 

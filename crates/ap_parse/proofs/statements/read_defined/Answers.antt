@@ -1,5 +1,5 @@
 use Rattle.grammar.specs.Takes.{Fails}
-use Rattle.ap_parse.proofs.Steps.{exit}
+use Rattle.literal_parse.proofs.Steps.{exit}
 use Rattle.ap_parse.proofs.StatementLemmas.{defined_signature_fails, defined_dot_fails, defined_read}
 use Rattle.ap_parse.proofs.statements.read_defined.Goals as goal
 

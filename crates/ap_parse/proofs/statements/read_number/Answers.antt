@@ -1,4 +1,4 @@
-use Rattle.ap_parse.proofs.Steps.{not_there}
+use Rattle.literal_parse.proofs.Steps.{not_there}
 use Rattle.ap_parse.proofs.StatementLemmas.{number_read}
 use Rattle.ap_parse.proofs.statements.read_number.Goals as goal
 

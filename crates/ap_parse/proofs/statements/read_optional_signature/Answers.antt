@@ -1,4 +1,4 @@
-use Rattle.ap_parse.proofs.Steps.{exit}
+use Rattle.literal_parse.proofs.Steps.{exit}
 use Rattle.ap_parse.proofs.StatementLemmas.{no_signature, signature_fails, some_signature}
 use Rattle.ap_parse.proofs.statements.read_optional_signature.Goals as goal
 

@@ -1,4 +1,4 @@
-use Rattle.ap_parse.proofs.Steps.{exit}
+use Rattle.literal_parse.proofs.Steps.{exit}
 use Rattle.ap_parse.proofs.StatementLemmas.{rule_fails, rule_statement, const_statement, show_statement, defined_statement}
 use Rattle.ap_parse.proofs.statements.read_statement.Goals as goal
 

@@ -1,5 +1,5 @@
 use Rattle.grammar.specs.Takes.{Fails}
-use Rattle.ap_parse.proofs.Steps.{exit}
+use Rattle.literal_parse.proofs.Steps.{exit}
 use Rattle.pref_parse.proofs.ElementLemmas.{element_given_fails, element_domain_fails, element_read}
 use Rattle.pref_parse.proofs.elements.read_element.Goals as goal
 

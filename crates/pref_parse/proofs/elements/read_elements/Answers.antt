@@ -1,5 +1,5 @@
 use Rattle.grammar.specs.Takes.{Fails}
-use Rattle.ap_parse.proofs.Steps.{exit}
+use Rattle.literal_parse.proofs.Steps.{exit}
 use Rattle.pref_parse.proofs.ElementLemmas.{braces_empty, braces_row_fails, braces_close_fails, braces_read}
 use Rattle.pref_parse.proofs.elements.read_elements.Goals as goal
 

@@ -1,4 +1,4 @@
-use Rattle.ap_parse.proofs.Steps.{exit}
+use Rattle.literal_parse.proofs.Steps.{exit}
 use Rattle.pref_parse.proofs.ElementLemmas.{given_none, given_fails, given_read}
 use Rattle.pref_parse.proofs.elements.read_given.Goals as goal
 

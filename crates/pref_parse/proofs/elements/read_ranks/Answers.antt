@@ -1,7 +1,7 @@
 use Rattle.std.proofs.Common.{arith}
 use Rattle.std.proofs.lemmas.Grind.{common_steps}
 use Rattle.grammar.specs.Takes.{Fails}
-use Rattle.ap_parse.proofs.Steps.{exit}
+use Rattle.literal_parse.proofs.Steps.{exit}
 use Rattle.pref_parse.proofs.ElementLemmas.{ranking_begun, ranking_more, ranks_fail, ranks_end}
 use Rattle.pref_parse.proofs.elements.read_ranks.Goals as goal
 

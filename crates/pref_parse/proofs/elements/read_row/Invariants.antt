@@ -1,6 +1,6 @@
 use Rattle.std.proofs.Common.{length, ◌≤◌}
 use Rattle.ap_grammar.specs.Values.{as_element}
-use Rattle.ap_parse.proofs.Collects.{Collects}
+use Rattle.literal_parse.proofs.Collects.{Collects}
 use Rattle.pref_parse.proofs.ElementLemmas.{ElementItem}
 use Rattle.pref_parse.proofs.elements.read_row.Given as goal
 

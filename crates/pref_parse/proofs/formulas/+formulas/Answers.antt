@@ -3,7 +3,7 @@ use Rattle.std.proofs.lemmas.Grind.{common_steps}
 use Rattle.grammar.specs.Takes.{Fails}
 use Rattle.ap_grammar.specs.declared.terminals.Terminal.TheVariants.{And, Or}
 use Rattle.ap_grammar.specs.Grammar.{Name}
-use Rattle.ap_parse.proofs.Steps.{exit}
+use Rattle.literal_parse.proofs.Steps.{exit}
 use Rattle.pref_parse.proofs.FormulaLemmas.{joining_begun, joining_more, joining_fails, joining_end, formula_reads, conjunction_reads, member_negated_fails, member_negated, member_plain, unit_atom_fails, unit_atom, unit_formula_fails, unit_close_fails, unit_formula}
 use Rattle.pref_parse.proofs.formulas.+formulas.Goals as goal
 

@@ -1,5 +1,5 @@
 use Rattle.grammar.specs.Takes.{Fails}
-use Rattle.ap_parse.proofs.Steps.{exit}
+use Rattle.literal_parse.proofs.Steps.{exit}
 use Rattle.pref_parse.proofs.FormulaLemmas.{rest_reads}
 use Rattle.pref_parse.proofs.formulas.read_formula_rest.Goals as goal
 

@@ -1,5 +1,5 @@
 use Rattle.grammar.specs.Takes.{Fails}
-use Rattle.ap_parse.proofs.Steps.{exit}
+use Rattle.literal_parse.proofs.Steps.{exit}
 use Rattle.pref_parse.proofs.MixedLemmas.{mixed_reads, inner_unit, inner_fails, inner_reads, front_not_fails, front_not, front_minus_fails, front_minus, unsigned, front_simple_fails, front_simple, front_inner, front_name_fails, front_arguments_fail, front_named}
 use Rattle.pref_parse.proofs.mixed.+mixed.Goals as goal
 

@@ -1,5 +1,5 @@
 use Rattle.grammar.specs.Takes.{Fails}
-use Rattle.ap_parse.proofs.Steps.{exit}
+use Rattle.literal_parse.proofs.Steps.{exit}
 use Rattle.pref_parse.proofs.MixedLemmas.{either_term_fails, either_term, either_formula, either_alone}
 use Rattle.pref_parse.proofs.mixed.read_either_rest.Goals as goal
 

@@ -1,4 +1,4 @@
-use Rattle.ap_parse.proofs.Steps.{exit}
+use Rattle.literal_parse.proofs.Steps.{exit}
 use Rattle.pref_parse.proofs.MixedLemmas.{inner_closed, inner_formed, inner_comma_fails, inner_tuple_fails, inner_tuple}
 use Rattle.pref_parse.proofs.mixed.read_inner_rest.Goals as goal
 

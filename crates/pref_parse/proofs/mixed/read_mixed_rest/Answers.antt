@@ -1,4 +1,4 @@
-use Rattle.ap_parse.proofs.Steps.{exit}
+use Rattle.literal_parse.proofs.Steps.{exit}
 use Rattle.pref_parse.proofs.MixedLemmas.{formed_rest, other_rest}
 use Rattle.pref_parse.proofs.mixed.read_mixed_rest.Goals as goal
 

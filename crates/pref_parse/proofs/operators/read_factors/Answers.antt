@@ -1,7 +1,7 @@
 use Rattle.std.proofs.Common.{arith}
 use Rattle.std.proofs.lemmas.Grind.{common_steps}
 use Rattle.ap_grammar.specs.Factored.{factor}
-use Rattle.ap_parse.proofs.Steps.{exit}
+use Rattle.literal_parse.proofs.Steps.{exit}
 use Rattle.pref_parse.proofs.OperatorLemmas.{operating_begun, factors_more, factors_fail, factors_end}
 use Rattle.pref_parse.proofs.operators.read_factors.Goals as goal
 

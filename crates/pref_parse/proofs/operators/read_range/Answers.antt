@@ -1,4 +1,4 @@
-use Rattle.ap_parse.proofs.Steps.{exit}
+use Rattle.literal_parse.proofs.Steps.{exit}
 use Rattle.pref_parse.proofs.OperatorLemmas.{range_none, range_fails, range_read}
 use Rattle.pref_parse.proofs.operators.read_range.Goals as goal
 

@@ -1,7 +1,7 @@
 use Rattle.std.proofs.Common.{arith}
 use Rattle.std.proofs.lemmas.Grind.{common_steps}
 use Rattle.ap_grammar.specs.Factored.{summand}
-use Rattle.ap_parse.proofs.Steps.{exit}
+use Rattle.literal_parse.proofs.Steps.{exit}
 use Rattle.pref_parse.proofs.OperatorLemmas.{operating_begun, summands_more, summands_fail, summands_end}
 use Rattle.pref_parse.proofs.operators.read_summands.Goals as goal
 

@@ -1,5 +1,5 @@
 use Rattle.grammar.specs.Takes.{Fails}
-use Rattle.ap_parse.proofs.Steps.{exit}
+use Rattle.literal_parse.proofs.Steps.{exit}
 use Rattle.pref_parse.proofs.OperatorLemmas.{summands_of_rest_fail, rest_reads}
 use Rattle.pref_parse.proofs.operators.read_term_rest.Goals as goal
 

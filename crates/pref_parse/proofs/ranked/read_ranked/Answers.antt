@@ -1,4 +1,4 @@
-use Rattle.ap_parse.proofs.Steps.{exit}
+use Rattle.literal_parse.proofs.Steps.{exit}
 use Rattle.pref_parse.proofs.RankLemmas.{ranked_name_fails, ranked_name, ranked_fails, ranked_reads}
 use Rattle.pref_parse.proofs.ranked.read_ranked.Goals as goal
 

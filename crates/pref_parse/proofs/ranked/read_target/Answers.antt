@@ -1,4 +1,4 @@
-use Rattle.ap_parse.proofs.Steps.{exit}
+use Rattle.literal_parse.proofs.Steps.{exit}
 use Rattle.pref_parse.proofs.RankLemmas.{target_name_fails, target_name, target_formula_fails, target_formula}
 use Rattle.pref_parse.proofs.ranked.read_target.Goals as goal
 

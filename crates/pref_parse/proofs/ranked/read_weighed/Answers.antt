@@ -1,5 +1,5 @@
 use Rattle.grammar.specs.Takes.{Fails}
-use Rattle.ap_parse.proofs.Steps.{exit}
+use Rattle.literal_parse.proofs.Steps.{exit}
 use Rattle.pref_parse.proofs.RankLemmas.{sign_fails, target_fails, weighed_read}
 use Rattle.pref_parse.proofs.ranked.read_weighed.Goals as goal
 

@@ -1,6 +1,6 @@
 use Rattle.std.proofs.Common.{arith}
 use Rattle.std.proofs.lemmas.Grind.{common_steps}
-use Rattle.ap_parse.proofs.Steps.{exit}
+use Rattle.literal_parse.proofs.Steps.{exit}
 use Rattle.pref_parse.proofs.RankLemmas.{weighing_begun, weighing_more, weighing_fails, weighing_end}
 use Rattle.pref_parse.proofs.ranked.read_weights.Goals as goal
 

@@ -1,5 +1,5 @@
 use Rattle.std.proofs.Common.{true, ◌∷◌, ◌++◌, [], ◌∙◌, ap}
-use Rattle.ap_parse.proofs.Steps.{exit}
+use Rattle.literal_parse.proofs.Steps.{exit}
 use Rattle.ap_parse.proofs.SectionLemmas.{section_opening_fails, section_read}
 use Rattle.pref_parse.proofs.sections.read_section.Goals as goal
 

@@ -1,4 +1,4 @@
-use Rattle.ap_parse.proofs.Steps.{exit}
+use Rattle.literal_parse.proofs.Steps.{exit}
 use Rattle.pref_parse.proofs.StatementLemmas.{any_preference_fails, any_preference, any_optimize, any_other}
 use Rattle.pref_parse.proofs.statements.read_any.Goals as goal
 

@@ -1,5 +1,5 @@
 use Rattle.grammar.specs.Takes.{Fails}
-use Rattle.ap_parse.proofs.Steps.{exit}
+use Rattle.literal_parse.proofs.Steps.{exit}
 use Rattle.ap_parse.proofs.StatementLemmas.{past}
 use Rattle.pref_parse.proofs.StatementLemmas.{preference_read}
 use Rattle.pref_parse.proofs.statements.read_preference.Goals as goal

@@ -1,4 +1,0 @@
-use Rattle.ap_parse.proofs.cursor.Cursor.eat.Goals as goal
-
-pub returns-in-Some : goal.returns-in-Some
-returns-in-Some c = c.in-Some.ensures.0

@@ -1,0 +1,9 @@
+pub mod Steps
+pub mod Names
+pub mod Held
+pub mod Collects
+pub mod Sums
+pub mod Primaries
+pub mod Relations
+pub mod LiteralLemmas
+pub mod StringLemmas

@@ -1,0 +1,189 @@
+// The tokens that are not read yet.
+ghost use Rattle.std.specs.Prelude.{◌≡◌, ◌∷◌, [], length, ◌≤◌, map};
+ghost use Rattle.grammar.specs.Fault.{next_kind};
+ghost use Rattle.grammar.specs.Form.Form.{Tok};
+ghost use Rattle.ap_grammar.specs.Grammar.{Name as names};
+ghost use Rattle.ap_grammar.specs.Factored.{call, factored};
+ghost use Rattle.ap_lexemes.specs.Lexemes.{lexeme_of};
+ghost use Rattle.literal_parse.specs.Reads.{Reads, Eats, Names, Numbers, Quotes, Spells, Tells, behind, IsAny, IsName, IsPlace};
+
+use crate::error::Stop;
+use ap_grammar::Terminal;
+use ap_lexemes::Lexeme;
+use ap_syntax::Text;
+use std::alloc::Global;
+use std::marker::Model;
+
+/// The place of a token: the number of its file, and its first byte.
+#[derive(Clone, Copy, Debug)]
+pub struct Place {
+    /// The number of its file.
+    pub file: u32,
+    /// The byte of the text, from 0, at which it begins.
+    pub at: u32,
+}
+
+/// The tokens that are not read yet.
+#[derive(Drop)]
+pub struct Cursor<'a> {
+    rest: &'a [Lexeme<'a>],
+}
+
+impl<'a> Model for Cursor<'a> {
+    ghost use Rattle.std.specs.Prelude.{List, map};
+    ghost use Rattle.ap_grammar.specs.Lexemes.{Lexeme};
+    ghost use Rattle.ap_lexemes.specs.Lexemes.{lexeme_of};
+
+    ghost Value = { List Lexeme };
+
+    ghost view = { λ c. map lexeme_of c.rest.now };
+}
+
+impl<'a> Cursor<'a> {
+    /// All of these tokens.
+    pub fn new(lexemes: &'a [Lexeme<'a>]) -> Cursor<'a>
+        ensures { result ≡ map lexeme_of lexemes.now }
+    {
+        Cursor { rest: lexemes }
+    }
+
+    /// How many tokens are left.
+    pub fn left(&self) -> usize
+        ensures { result ≡ length self.now }
+    {
+        self.rest.len()
+    }
+
+    /// The place of the next token. Where none is left it says nothing.
+    pub fn place(&self) -> Place
+        ensures { IsPlace self.now result }
+    {
+        match self.rest.split_first() {
+            Some((token, _)) => Place {
+                file: token.file,
+                at: token.at,
+            },
+            None => Place { file: 0, at: 0 },
+        }
+    }
+
+    /// The kind of the next token.
+    pub fn peek(&self) -> Option<Terminal>
+        ensures { result ≡ next_kind factored self.now }
+    {
+        match self.rest.split_first() {
+            Some((token, _)) => Some(token.terminal),
+            None => None,
+        }
+    }
+
+    /// Goes on behind the next token, if there is one.
+    pub fn advance(&mut self)
+        ensures { self.new ≡ behind self.old }
+    {
+        if let [_, rest @ ..] = self.rest {
+            self.rest = rest;
+        }
+    }
+
+    /// Whether a token of this kind comes next.
+    pub fn sees(&self, wanted: Terminal) -> bool
+        ensures { Tells (Tok wanted) self.now result }
+    {
+        match self.rest.split_first() {
+            Some((token, _)) => token.terminal == wanted,
+            None => false,
+        }
+    }
+
+    /// Reads a token of this kind, if one comes next, and answers its characters.
+    pub fn take(&mut self, wanted: Terminal) -> Option<&'a str>
+        ensures { Spells wanted self.old self.new result }
+    {
+        let [token, rest @ ..] = self.rest else {
+            return None;
+        };
+        if token.terminal == wanted {
+            self.rest = rest;
+            Some(token.spelling)
+        } else {
+            None
+        }
+    }
+
+    /// Reads a number, if one comes next.
+    pub fn number(&mut self) -> Option<u32>
+        ensures { Numbers self.old self.new result }
+    {
+        let [token, rest @ ..] = self.rest else {
+            return None;
+        };
+        if token.terminal == Terminal::Number {
+            self.rest = rest;
+            Some(token.number)
+        } else {
+            None
+        }
+    }
+
+    /// Reads a string, if one comes next, and answers its characters with the quotes.
+    pub fn quoted(&mut self) -> Option<&'a str>
+        ensures { Quotes self.old self.new result }
+    {
+        let [token, rest @ ..] = self.rest else {
+            return None;
+        };
+        if token.terminal == Terminal::String {
+            self.rest = rest;
+            Some(token.spelling)
+        } else {
+            None
+        }
+    }
+
+    /// Reads a token of this kind, if one comes next.
+    pub fn eat(&mut self, wanted: Terminal) -> bool
+        ensures { Eats wanted self.old self.new result }
+    {
+        match self.take(wanted) {
+            Some(_) => true,
+            None => false,
+        }
+    }
+
+    /// Reads a token of this kind.
+    pub fn expect(&mut self, wanted: Terminal) -> Result<(), Stop>
+        ensures read { Reads (Tok wanted) IsAny self.old self.new result }
+        ensures shorter { length self.new ≤ length self.old }
+    {
+        if self.eat(wanted) {
+            Ok(())
+        } else {
+            Err(Stop::Syntax)
+        }
+    }
+
+    // Reads a name, if one comes next.
+    fn take_name(&mut self) -> Option<&'a str>
+        ensures { Names self.old self.new result }
+    {
+        if let Some(name) = self.take(Terminal::Word) {
+            return Some(name);
+        }
+        if let Some(name) = self.take(Terminal::Base) {
+            return Some(name);
+        }
+        self.take(Terminal::Preference)
+    }
+
+    /// Reads a name.
+    pub fn name(&mut self, alloc: Global) -> Result<Text, Stop>
+        ensures read { Reads (call names.Ident) (IsName self.old) self.old self.new result }
+        ensures shorter { length self.new ≤ length self.old }
+    {
+        match self.take_name() {
+            Some(name) => Ok(Text::new(alloc, name)?),
+            None => Err(Stop::Syntax),
+        }
+    }
+}
