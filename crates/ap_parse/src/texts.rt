@@ -18,7 +18,7 @@ use crate::openings::read_one;
 use crate::sections::read_text;
 use ap_grammar::Terminal;
 use ap_lex::Token;
-use ap_lexemes::{ParseFault, Tokenized, lexemes, terminal, tokenize};
+use ap_lexemes::{ParseFault, Tokenized, terminal, tokenize};
 use ap_syntax::{PartKind, Program, Statement};
 use literal_parse::Cursor;
 use std::alloc::Global;
@@ -62,8 +62,8 @@ pub fn statement(
     ensures { IsStatementAt text.now tokens.now from part.now result }
 {
     let front = up_to_dot(text, &tokens[from..]);
-    let lexemes = lexemes(alloc, text, front, 0)?;
-    let tokenized = Tokenized::new(alloc, lexemes, text.len() as u32, false)?;
+    let copied = Vec::from_slice(alloc, front)?;
+    let tokenized = Tokenized::new(alloc, text, copied, 0, text.len() as u32, false)?;
     let statement = read_single(alloc, &tokenized, is_of_type(part))?;
     Ok((statement, from + front.len()))
 }

@@ -11,7 +11,7 @@ use Rattle.ap_grammar.specs.Tables.{same}
 use Rattle.ap_grammar.proofs.Predictive.{same_itself}
 use Rattle.ap_lexemes.specs.declared.lexeme.Lexeme.{Lexeme as Held}
 use Rattle.ap_lexemes.specs.Lexemes.{lexeme_of}
-use Rattle.literal_parse.specs.Reads.{IsNext, Lacks, Tells, behind}
+use Rattle.literal_parse.specs.Reads.{Lacks, Tells, behind}
 use Rattle.literal_parse.proofs.Steps.{not_same}
 
 -- all behind the first
