@@ -8,6 +8,7 @@ mod domains;
 mod fault;
 mod faults;
 mod judging;
+mod marks;
 mod safe;
 #[cfg(test)]
 mod tests;
