@@ -83,9 +83,9 @@ fn copy_boxed(alloc: Global, term: &Boxed<Term>) -> Result<Boxed<Term>, AllocErr
 pub(crate) fn copy_terms(alloc: Global, terms: &[Term]) -> Result<Items<Term>, AllocError>
     ensures { IfOk result (λ ts. ts ≡ terms.now) }
 {
-    let mut copies = Items::new(alloc);
+    let mut copies = Vec::with_capacity(alloc, terms.len())?;
     for term in terms {
         copies.push(copy_term(alloc, term)?)?;
     }
-    Ok(copies)
+    Ok(Items::from_vec(copies))
 }

@@ -141,9 +141,9 @@ fn copy_guard(
 fn copy_parts<T: Part>(alloc: Global, parts: &[T]) -> Result<Items<T>, AllocError>
     ensures { IfOk result (λ ps. ps ≡ parts.now) }
 {
-    let mut copies = Items::new(alloc);
+    let mut copies = Vec::with_capacity(alloc, parts.len())?;
     for part in parts {
         copies.push(part.copied(alloc)?)?;
     }
-    Ok(copies)
+    Ok(Items::from_vec(copies))
 }

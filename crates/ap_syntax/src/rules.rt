@@ -39,7 +39,7 @@ pub enum Function {
     Sum,
 }
 
-/// A part of a body. What few parts have is boxed, so that a plain literal takes little memory.
+/// A part of a body. What few of them have is boxed, so that a plain literal is small.
 #[derive(Debug, Drop)]
 pub enum BodyItem {
     /// A literal.
@@ -68,7 +68,7 @@ pub enum BodyItem {
     },
 }
 
-/// What a rule derives. The guards of a choice are boxed, so that a rule whose head is an atom takes little memory.
+/// What a rule derives. The guards of a choice are boxed, so that a rule with an atom is small.
 #[derive(Debug, Drop)]
 pub enum HeadForm {
     /// An atom.

@@ -75,8 +75,7 @@ pub struct Atom {
     pub terms: Items<Term>,
 }
 
-/// An atom, an atom under default negation, or a comparison. The terms of a comparison are boxed, so that a literal takes no more
-/// memory than an atom needs.
+/// An atom, an atom under default negation, or a comparison. The terms of a comparison are boxed, so that a plain literal is small.
 #[derive(Debug, Drop)]
 pub enum Literal {
     /// An atom.
