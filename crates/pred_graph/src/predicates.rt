@@ -110,7 +110,7 @@ fn push_item(alloc: Global, preds: &mut Items<Pred>, item: &BodyItem) -> Result<
             condition,
             ..
         } => {
-            push_literal(alloc, preds, literal)?;
+            push_literal(alloc, preds, literal.get())?;
             push_literals(alloc, preds, condition.as_slice())
         }
         BodyItem::Agg { elements, .. } => push_tuples(alloc, preds, elements.as_slice()),
@@ -131,7 +131,7 @@ fn push_item_positives(
             condition,
             ..
         } => {
-            push_positive(alloc, preds, literal)?;
+            push_positive(alloc, preds, literal.get())?;
             push_positives(alloc, preds, condition.as_slice())
         }
         BodyItem::Agg { .. } => Ok(()),
