@@ -34,8 +34,8 @@ impl Literal {
             Literal::Pos(atom) => Ok(Literal::Pos(atom.copy(alloc)?)),
             Literal::Not(atom) => Ok(Literal::Not(atom.copy(alloc)?)),
             Literal::Compare(left, rel, right) => {
-                let left = left.copy(alloc)?;
-                Ok(Literal::Compare(left, *rel, right.copy(alloc)?))
+                let left = copy_boxed(alloc, left)?;
+                Ok(Literal::Compare(left, *rel, copy_boxed(alloc, right)?))
             }
         }
     }
