@@ -12,8 +12,8 @@ ghost use Rattle.pref_parse.specs.Elements.{IsElement, IsElements, IsOptionalGiv
 
 use crate::ranked::read_ranked;
 use ap_grammar::Terminal;
-use literal_parse::{Cursor, Stop, read_literals};
 use ap_syntax::{Element, Literal, Ranked, fitted};
+use literal_parse::{Cursor, Stop, read_literals};
 use sqlite_items::Items;
 use std::alloc::Global;
 

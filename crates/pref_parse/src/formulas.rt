@@ -13,8 +13,8 @@ ghost use Rattle.literal_parse.specs.Reads.{Reads, Tells};
 ghost use Rattle.pref_parse.specs.Formulas.{IsConjunction, IsDisjunction, IsFormula, IsFormulaRest, IsUnit, unit};
 
 use ap_grammar::Terminal;
-use literal_parse::{Cursor, Stop, read_atom};
 use ap_syntax::{Formula, fitted};
+use literal_parse::{Cursor, Stop, read_atom};
 use sqlite_items::{Boxed, Items};
 use std::alloc::Global;
 

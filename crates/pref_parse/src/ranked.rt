@@ -15,8 +15,8 @@ ghost use Rattle.pref_parse.specs.Ranks.{IsRanked, IsRankedRest, IsTarget, IsWei
 use crate::formulas::read_formula;
 use crate::mixed::{Mixed, read_mixed};
 use ap_grammar::Terminal;
-use literal_parse::{Cursor, Operand, Stop, read_term};
 use ap_syntax::{Atom, Formula, Ranked, Target, Term, fitted};
+use literal_parse::{Cursor, Operand, Stop, read_term};
 use sqlite_items::Items;
 use std::alloc::Global;
 

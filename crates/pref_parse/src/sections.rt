@@ -13,8 +13,8 @@ ghost use Rattle.ap_parse.specs.Sections.{IsMore, IsProgram, IsSection};
 use crate::statements::{begins_any, read_any};
 use ap_grammar::Terminal;
 use ap_parse::read_opening;
-use literal_parse::{Cursor, Stop};
 use ap_syntax::{Statement, fitted};
+use literal_parse::{Cursor, Stop};
 use sqlite_items::Items;
 use std::alloc::Global;
 
