@@ -1,7 +1,8 @@
 // The small preference statements that stand for preference statements.
 ghost use Rattle.std.specs.Prelude.{◌≡◌, codes, is_some, IfOk};
+ghost use Rattle.std.specs.List.{list_all};
 ghost use Rattle.std.specs.Str.{bytes_eq};
-ghost use Rattle.small_front.specs.Forms.{each, element_of, element_with, rank_with, small_preference, target_of};
+ghost use Rattle.small_front.specs.Forms.{each, element_of, rank_with, small_preference, target_of};
 
 use crate::rules::{atom_of, is_small_atom};
 use ap_syntax::{Element, Formula, Preference, Ranked, Target, Text, small};
@@ -64,8 +65,11 @@ fn element_of(element: Element) -> Option<small::Element>
         domain,
         ..
     } = element;
+    if given.is_some() || !domain.is_empty() {
+        return None;
+    }
     let only = ranks.pop()?;
-    if !ranks.is_empty() || given.is_some() || !domain.is_empty() {
+    if !ranks.is_empty() {
         return None;
     }
     let atom = rank_of(only)?;
@@ -75,7 +79,7 @@ fn element_of(element: Element) -> Option<small::Element>
 }
 
 fn are_small_elements(elements: &[Element]) -> bool
-    ensures { result ≡ is_some (each element_of elements.now) }
+    ensures { result ≡ list_all (λ element. is_some (element_of element)) elements.now }
 {
     elements.iter().all(|element| is_small_element(element))
 }

@@ -1,5 +1,5 @@
 // The small program of some statements.
-ghost use Rattle.std.specs.Prelude.{◌≡◌, IfOk, filter, length};
+ghost use Rattle.std.specs.Prelude.{◌≡◌, IfOk};
 ghost use Rattle.small_front.specs.Forms.{small_of, small_statement_of};
 
 use crate::preferences::small_preference;
@@ -34,8 +34,9 @@ pub fn small_program(
 {
     let mut small = Vec::with_capacity(alloc, statements.len())?;
     'statements: while let Some(last) = statements.pop() {
-        if let Some(found) = small_statement(alloc, last)? {
-            small.push(found)?;
+        match small_statement(alloc, last)? {
+            Some(found) => small.push(found)?,
+            None => {}
         }
     }
     small.reverse();

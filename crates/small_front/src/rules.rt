@@ -1,5 +1,6 @@
 // The small rules that stand for rules.
 ghost use Rattle.std.specs.Prelude.{◌≡◌, is_some, IfOk};
+ghost use Rattle.std.specs.List.{list_all};
 ghost use Rattle.small_front.specs.Forms.{atom_of, choice_element_of, each, head_of, item_of, literal_of, small_rule};
 
 use ap_syntax::{Atom, BodyItem, ChoiceElement, HeadForm, Literal, Rule, small};
@@ -64,7 +65,7 @@ fn item_of(item: BodyItem) -> Option<small::BodyItem>
 }
 
 fn is_small_body(items: &[BodyItem]) -> bool
-    ensures { result ≡ is_some (each item_of items.now) }
+    ensures { result ≡ list_all (λ item. is_some (item_of item)) items.now }
 {
     items.iter().all(|item| is_small_item(item))
 }
@@ -103,7 +104,7 @@ fn choice_element_of(element: ChoiceElement) -> Option<small::ChoiceElement>
 }
 
 fn is_small_choice(elements: &[ChoiceElement]) -> bool
-    ensures { result ≡ is_some (each choice_element_of elements.now) }
+    ensures { result ≡ list_all (λ element. is_some (choice_element_of element)) elements.now }
 {
     elements
         .iter()
