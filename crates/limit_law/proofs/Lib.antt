@@ -1,0 +1,6 @@
+pub mod Numbers
+pub mod Trees
+pub mod Scanning
+pub mod Scans
+pub mod Terms
+pub mod Formulas

@@ -1,0 +1,7 @@
+//! The limit of formulas, which a scan of the tokens finds, is one of the formulas' trees.
+#![tactic(auto)]
+
+mod law;
+
+pub use law::depth_of_a_formula;
+pub use law::limit_of_a_formula;
