@@ -3,7 +3,8 @@ use Rattle.std.proofs.Common.{◌≡◌, ℕ, ◌+◌, ◌≤◌, Bool, true, fa
 use Rattle.std.specs.Prelude.{fold, max}
 use Rattle.grammar.specs.Form.{Derives, ◌⨾◌}
 use Rattle.grammar.specs.Form.Form.{Tok, Call, Star}
-use Rattle.grammar.proofs.Interpret.{Reads}
+use Rattle.std.proofs.lemmas.List.{append_cancel_right}
+use Rattle.grammar.proofs.Interpret.{Reads, read as read_by}
 use Rattle.ap_syntax.specs.declared.preferences.Formula.{Formula as FormulaTree}
 use Rattle.ap_syntax.specs.declared.preferences.Formula.TheVariants as formulas
 use Rattle.ap_grammar.specs.declared.terminals.Terminal.TheVariants as t
@@ -14,12 +15,12 @@ use Rattle.ap_grammar.specs.Grammar.{Name, conjunction_of, disjunction_of, gramm
 use Rattle.ap_lexemes.specs.declared.levels.Level.{Level}
 use Rattle.ap_lexemes.specs.declared.role.Role.TheVariants as roles
 use Rattle.ap_lexemes.specs.Limits.{Levels, after, depth_of, joined, member_depth, role_of}
-use Rattle.limit_law.specs.Depths.{capped, depth, scan}
+use Rattle.limit_law.specs.Depths.{IsFresh, capped, depth, scan}
 use Rattle.limit_law.proofs.Numbers.{deeper_capped, joined_capped}
 use Rattle.limit_law.proofs.Trees.{of_atom, of_conjunction, of_disjunction, of_not}
 use Rattle.limit_law.proofs.Scanning.{after_is, around, group_tokens, inside, scan_append, scan_group, tokens_then}
 use Rattle.limit_law.proofs.Scans.{BehindConjunction, BehindDisjunction, ConjunctionDepth, DisjunctionDepth, MemberDepth, Scans, ScansAtom, ScansFormula, at}
-use Rattle.limit_law.proofs.Terms.{Has}
+use Rattle.limit_law.proofs.Terms.{Has, arguments_scans, atom_scans, name_scans, primary_scans, product_scans, sum_scans, term_scans, unary_scans}
 
 -- ---- members
 
@@ -137,3 +138,95 @@ conjunction_made {zs = zs} p r = rw (p.is, r.are) (record {
 
 conjunction_scans : {xs ys : List Lexeme} {vs : List Value} → Has (rule_of Name.Conjunction) xs ys vs → ScansFormula ConjunctionDepth xs ys (made Name.Conjunction vs)
 conjunction_scans (Reads.seq (Reads.call m) rest) = conjunction_made m (members_behind rest)
+
+-- ---- disjunctions
+
+-- the conjunctions behind the first one
+record Conjunctions (xs ys : List Lexeme) (vs : List Value) : Type 0 where
+  trees : List FormulaTree
+  are : collected as_formula vs ≡ trees
+  read : List Lexeme
+  tokens : xs ≡ read ++ ys
+  scans : (c d e m k : ℕ) (n : Bool) (os : List Level) → 1 ≤ k → joined d (joined e m) ≡ capped k → BehindDisjunction read (chain_from k trees) c os (at c d e n m os)
+
+no_conjunctions : (xs : List Lexeme) → Conjunctions xs xs []
+no_conjunctions xs = record { trees = []; are = refl; read = []; tokens = refl; scans = λ c d e m k n os h i. record { disjunction = d; conjunction = e; negated = n; member = m; scanned = refl; total = i } }
+
+disjunction_then : (a b : List Lexeme) (k c : ℕ) (os : List Level) (s s' : Levels) → scan s a ≡ s' → BehindDisjunction b k c os s' → BehindDisjunction (a ++ b) k c os s
+disjunction_then a b k c os s s' e r = record { disjunction = r.disjunction; conjunction = r.conjunction; negated = r.negated; member = r.member; scanned = scan_append s a b ∙ (ap (λ l. scan l b) e ∙ r.scanned); total = r.total }
+
+behind_or : (x : Lexeme) (c d e m k : ℕ) (n : Bool) (os : List Level) → x.terminal ≡ t.Or → joined d (joined e m) ≡ capped k → after (at c d e n m os) (role_of x.terminal) ≡ at c (capped k) 0 false 0 os
+behind_or x c d e m k n os h i = after_is (at c d e n m os) x (ap role_of h) ∙ ap (λ d. at c d 0 false 0 os) i
+
+more_conjunctions : (x : Lexeme) {xs ys zs : List Lexeme} {v : Value} {vs : List Value} → x.terminal ≡ t.Or → ScansFormula ConjunctionDepth xs ys v → Conjunctions ys zs vs → Conjunctions (x ∷ xs) zs (token x ∷ v ∷ vs)
+more_conjunctions x {zs = zs} h p r = record {
+  trees = p.tree ∷ r.trees;
+  are = rw p.is (ap (λ fs. p.tree ∷ fs) r.are);
+  read = x ∷ (p.read ++ r.read);
+  tokens = ap (λ ts. x ∷ ts) (tokens_then p.read r.read zs p.tokens r.tokens);
+  scans = λ c d e m k n os i j.
+    let q = p.scans c (capped k) os in
+    disjunction_then (x ∷ p.read) r.read _ c os (at c d e n m os) (at c (capped k) q.conjunction q.negated q.member os)
+      (ap (λ l. scan l p.read) (behind_or x c d e m k n os h j) ∙ q.scanned)
+      (r.scans c (capped k) q.conjunction q.member (max k (depth p.tree) + 1) q.negated os (omega arith) (ap (joined (capped k)) q.total ∙ joined_capped k (depth p.tree) i p.positive));
+}
+
+conjunctions_behind : {xs ys : List Lexeme} {vs : List Value} → Has (Star (Tok t.Or ⨾ Call Name.Conjunction)) xs ys vs → Conjunctions xs ys vs
+conjunctions_behind (Reads.none {xs = xs}) = no_conjunctions xs
+conjunctions_behind (Reads.more (Reads.seq (Reads.tok {t = x} e) (Reads.call m)) rest) = more_conjunctions x e m (conjunctions_behind rest)
+
+disjunction_made : {xs ys zs : List Lexeme} {v : Value} {vs : List Value} → ScansFormula ConjunctionDepth xs ys v → Conjunctions ys zs vs → ScansFormula DisjunctionDepth xs zs (made Name.Formula (v ∷ vs))
+disjunction_made {zs = zs} p r = rw (p.is, r.are) (record {
+  first = _;
+  tree = disjunction_of (p.tree ∷ r.trees);
+  is = refl;
+  read = p.read ++ r.read;
+  tokens = tokens_then p.read r.read zs p.tokens r.tokens;
+  positive = rw (of_disjunction p.tree r.trees) (chain_positive (depth p.tree) r.trees p.positive);
+  scans = rw (of_disjunction p.tree r.trees) (λ c os. let q = p.scans c 0 os in disjunction_then p.read r.read _ c os (at c 0 0 false 0 os) _ q.scanned (r.scans c 0 q.conjunction q.member (depth p.tree) q.negated os p.positive q.total));
+})
+
+formula_scans : {xs ys : List Lexeme} {vs : List Value} → Has (rule_of Name.Formula) xs ys vs → ScansFormula DisjunctionDepth xs ys (made Name.Formula vs)
+formula_scans (Reads.seq (Reads.call m) rest) = disjunction_made m (conjunctions_behind rest)
+
+-- ---- all rules
+
+rule_scans : (n : Name) (xs ys : List Lexeme) (vs : List Value) → Has (rule_of n) xs ys vs → Scans n xs ys (made n vs)
+rule_scans Name.Ident xs ys vs d = name_scans d
+rule_scans Name.Arguments xs ys vs d = arguments_scans d
+rule_scans Name.Atom xs ys vs d = atom_scans d
+rule_scans Name.Term xs ys vs d = term_scans d
+rule_scans Name.Sum xs ys vs d = sum_scans d
+rule_scans Name.Product xs ys vs d = product_scans d
+rule_scans Name.Unary xs ys vs d = unary_scans d
+rule_scans Name.Primary xs ys vs d = primary_scans d
+rule_scans Name.Formula xs ys vs d = formula_scans d
+rule_scans Name.Conjunction xs ys vs d = conjunction_scans d
+rule_scans Name.Member xs ys vs d = member_scans d
+rule_scans n xs ys vs d = tt
+
+same_tree : (first other : Lexeme) (f g : FormulaTree) → formula first f ≡ formula other g → g ≡ f
+same_tree first other f g e = cc
+
+-- the levels behind a formula
+pub record Behind (s : Levels) (read : List Lexeme) (f : FormulaTree) : Type 0 where
+  pub level : depth_of (scan s read).level ≡ capped (depth f)
+  pub outer : (scan s read).outer ≡ s.outer
+  pub commas : (scan s read).level.commas ≡ s.level.commas
+
+fresh_at : (c d e m : ℕ) (n : Bool) (os : List Level) → d ≡ 0 → e ≡ 0 → n ≡ false → m ≡ 0 → at c d e n m os ≡ at c 0 0 false 0 os
+fresh_at c d e m n os f g h i = rw (f, g, h, i) refl
+
+fresh_is : (s : Levels) → IsFresh s.level → s ≡ at s.level.commas 0 0 false 0 s.outer
+fresh_is s h = fresh_at s.level.commas s.level.disjunction s.level.conjunction s.level.member s.level.negated s.outer h.disjunction h.conjunction h.negated h.member
+
+behind_is : (s : Levels) (read : List Lexeme) (f : FormulaTree) → IsFresh s.level → BehindDisjunction read (depth f) s.level.commas s.outer (at s.level.commas 0 0 false 0 s.outer) → Behind s read f
+behind_is s read f h b =
+    let e = ap (λ t. scan t read) (fresh_is s h) ∙ b.scanned in
+    record { level = ap (λ (t : Levels). depth_of t.level) e ∙ b.total; outer = ap (λ (t : Levels). t.outer) e; commas = ap (λ (t : Levels). t.level.commas) e }
+
+pub behind : (s : Levels) (read rest : List Lexeme) (first : Lexeme) (f : FormulaTree) → IsFresh s.level → Derives grammar (Call Name.Formula) (read ++ rest) rest (formula first f ∷ []) → Behind s read f
+behind s front rest first f h d = by_reading (read_by rule_scans d)
+  where
+    by_reading : Has (Call Name.Formula) (front ++ rest) rest (formula first f ∷ []) → Behind s front f
+    by_reading (Reads.call p) = behind_is s front f h (subst (λ ts. BehindDisjunction ts (depth f) s.level.commas s.outer (at s.level.commas 0 0 false 0 s.outer)) (sym (append_cancel_right front p.read rest p.tokens)) (subst (λ g. BehindDisjunction p.read (depth g) s.level.commas s.outer (at s.level.commas 0 0 false 0 s.outer)) (same_tree first p.first f p.tree p.is) (p.scans s.level.commas s.outer)))

@@ -4,3 +4,4 @@ pub mod Scanning
 pub mod Scans
 pub mod Terms
 pub mod Formulas
+pub mod Limits
