@@ -13,7 +13,6 @@ use Rattle.ap_grammar.specs.Values.{Value, as_formula, collected}
 use Rattle.ap_grammar.specs.Values.Value.{formula, token}
 use Rattle.ap_grammar.specs.Grammar.{Name, conjunction_of, disjunction_of, grammar, made, rule_of}
 use Rattle.ap_lexemes.specs.declared.levels.Level.{Level}
-use Rattle.ap_lexemes.specs.declared.role.Role.TheVariants as roles
 use Rattle.ap_lexemes.specs.Limits.{Levels, after, depth_of, joined, member_depth, role_of}
 use Rattle.limit_law.specs.Depths.{IsFresh, capped, depth, scan}
 use Rattle.limit_law.proofs.Numbers.{deeper_capped, joined_capped}
@@ -115,8 +114,8 @@ more_members x {zs = zs} h p r = record {
   read = x ∷ (p.read ++ r.read);
   tokens = ap (λ ts. x ∷ ts) (tokens_then p.read r.read zs p.tokens r.tokens);
   scans = λ c d e m k n os i j.
-    let q = p.scans c d (capped k) os in
-    conjunction_then (x ∷ p.read) r.read _ c d os (at c d e n m os) (at c d (capped k) q.0 (capped (depth p.tree)) os)
+      let q = p.scans c d (capped k) os in
+      conjunction_then (x ∷ p.read) r.read _ c d os (at c d e n m os) (at c d (capped k) q.0 (capped (depth p.tree)) os)
       (ap (λ l. scan l p.read) (behind_and x c d e m k n os h j) ∙ q.1)
       (r.scans c d (capped k) (capped (depth p.tree)) (max k (depth p.tree) + 1) q.0 os (omega arith) (joined_capped k (depth p.tree) i p.positive));
 }
@@ -165,8 +164,8 @@ more_conjunctions x {zs = zs} h p r = record {
   read = x ∷ (p.read ++ r.read);
   tokens = ap (λ ts. x ∷ ts) (tokens_then p.read r.read zs p.tokens r.tokens);
   scans = λ c d e m k n os i j.
-    let q = p.scans c (capped k) os in
-    disjunction_then (x ∷ p.read) r.read _ c os (at c d e n m os) (at c (capped k) q.conjunction q.negated q.member os)
+      let q = p.scans c (capped k) os in
+      disjunction_then (x ∷ p.read) r.read _ c os (at c d e n m os) (at c (capped k) q.conjunction q.negated q.member os)
       (ap (λ l. scan l p.read) (behind_or x c d e m k n os h j) ∙ q.scanned)
       (r.scans c (capped k) q.conjunction q.member (max k (depth p.tree) + 1) q.negated os (omega arith) (ap (joined (capped k)) q.total ∙ joined_capped k (depth p.tree) i p.positive));
 }

@@ -1,12 +1,12 @@
 -- The limit where a formula ends.
-use Rattle.std.proofs.Common.{◌≡◌, ◌≢◌, ℕ, ◌+◌, ◌<◌, ◌≤◌, Bool, true, false, refl, sym, ap, ◌∙◌, arith, if◌then◌else◌}
-use Rattle.std.specs.Prelude.{Option, None, Some, nat_le, not, ◌&&◌, ◌||◌}
+use Rattle.std.proofs.Common.{◌≡◌, ◌≢◌, ℕ, ◌<◌, ◌≤◌, Bool, true, false, refl, arith, if◌then◌else◌}
+use Rattle.std.specs.Prelude.{Option, None, Some, not, ◌&&◌, ◌||◌}
 use Rattle.std.proofs.lemmas.Bool.Decides.{nat_tests}
 use Rattle.ap_lexemes.specs.declared.levels.Level.{Level}
 use Rattle.ap_lexemes.specs.declared.limit.Limit.{Limit}
 use Rattle.ap_lexemes.specs.declared.limit.Limit.TheVariants.{Formula}
 use Rattle.ap_lexemes.specs.declared.role.Role.{Role}
-use Rattle.ap_lexemes.specs.declared.role.Role.TheVariants.{Name, Not, And, Or, Open, Close, Comma, Dot, Other}
+use Rattle.ap_lexemes.specs.declared.role.Role.TheVariants.{And}
 use Rattle.ap_lexemes.specs.Limits.{conjunction_depth, depth_of, formula_limit, is_and, is_too_deep, joined}
 use Rattle.limit_law.specs.Depths.{capped}
 

@@ -1,8 +1,8 @@
 -- Depths that are told apart up to 65.
-use Rattle.std.proofs.Common.{◌≡◌, ℕ, ◌+◌, ◌<◌, ◌≤◌, Bool, true, false, refl, arith}
-use Rattle.std.specs.Prelude.{max, nat_le, ◌==◌}
+use Rattle.std.proofs.Common.{◌≡◌, ℕ, ◌+◌, ◌<◌, ◌≤◌, refl, arith}
+use Rattle.std.specs.Prelude.{max}
 use Rattle.std.proofs.lemmas.Bool.Decides.{nat_tests}
-use Rattle.ap_lexemes.specs.Limits.{deeper, is_too_deep, joined}
+use Rattle.ap_lexemes.specs.Limits.{deeper, joined}
 use Rattle.limit_law.specs.Depths.{capped}
 
 pub deeper_capped : (k : ℕ) → deeper (capped k) ≡ capped (k + 1)

@@ -1,5 +1,5 @@
 -- Terms keep the levels around them, and an atom is a member of depth 1.
-use Rattle.std.proofs.Common.{◌≡◌, ℕ, Bool, true, false, List, [], ◌∷◌, ◌++◌, refl, sym, ap, ◌∙◌}
+use Rattle.std.proofs.Common.{◌≡◌, ℕ, Bool, true, false, List, [], ◌∷◌, refl, ap, ◌∙◌}
 use Rattle.std.specs.Prelude.{◌&&◌}
 use Rattle.std.proofs.lemmas.Bool.{and_parts}
 use Rattle.grammar.specs.Form.{◌⨾◌, ◌∣◌}
@@ -7,14 +7,11 @@ use Rattle.grammar.specs.Form.Form.{Tok, Call, Empty, Seq, Alt, Star, Then}
 use Rattle.grammar.proofs.Interpret.{Reads}
 use Rattle.ap_grammar.specs.declared.terminals.Terminal.TheVariants as t
 use Rattle.ap_grammar.specs.Lexemes.{Lexeme}
-use Rattle.ap_grammar.specs.Values.{Value, as_term, collected}
-use Rattle.ap_grammar.specs.Values.Value.{atom, token}
+use Rattle.ap_grammar.specs.Values.{Value}
 use Rattle.ap_grammar.specs.Grammar.{Name, Rhs, grammar, made, many, rule_of}
-use Rattle.ap_lexemes.specs.declared.levels.Level.{Level}
-use Rattle.ap_lexemes.specs.declared.role.Role.TheVariants as roles
-use Rattle.ap_lexemes.specs.Limits.{Levels, after, closed, role_of, with_member}
+use Rattle.ap_lexemes.specs.Limits.{Levels, role_of}
 use Rattle.limit_law.specs.Depths.{scan}
-use Rattle.limit_law.proofs.Scanning.{Grouped, Kept, after_is, around, group, grouped_kept, is_flat, kept_none, kept_then, kept_token, scan_append, tokens_then}
+use Rattle.limit_law.proofs.Scanning.{Kept, after_is, around, group, grouped_kept, is_flat, kept_none, kept_then, kept_token, tokens_then}
 use Rattle.limit_law.proofs.Scans.{Scans, ScansArguments, ScansAtom, ScansName, named}
 
 abbrev pub Has : Rhs → List Lexeme → List Lexeme → List Value → Type 0

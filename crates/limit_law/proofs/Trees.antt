@@ -1,5 +1,5 @@
 -- The depth of a formula by its outermost sign.
-use Rattle.std.proofs.Common.{◌≡◌, ℕ, ◌+◌, ◌≤◌, List, [], ◌∷◌, map, refl, sym, ap, ◌∙◌, arith}
+use Rattle.std.proofs.Common.{◌≡◌, ℕ, ◌+◌, List, [], ◌∷◌, map, refl, sym, ap, ◌∙◌}
 use Rattle.ap_syntax.specs.declared.terms.Atom.{Atom}
 use Rattle.ap_syntax.specs.declared.preferences.Formula.{Formula, fold-roll-Formula}
 use Rattle.ap_syntax.specs.declared.preferences.Formula.TheVariants as formulas

@@ -1,6 +1,5 @@
 // The laws.
 ghost use Rattle.std.specs.Prelude.{◌≡◌, ◌≢◌, ◌<◌, ◌≤◌, ◌++◌, List, None, Some, [], ◌∷◌};
-
 ghost use Rattle.grammar.specs.Form.{Derives};
 ghost use Rattle.grammar.specs.Form.Form.{Call};
 ghost use Rattle.ap_grammar.specs.Grammar.{Name, grammar};
