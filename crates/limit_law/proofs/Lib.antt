@@ -1,7 +1,9 @@
 pub mod Numbers
 pub mod Trees
+pub mod Limits
+pub mod Quiet
 pub mod Scanning
+pub mod Last
 pub mod Scans
 pub mod Terms
 pub mod Formulas
-pub mod Limits

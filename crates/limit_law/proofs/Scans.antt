@@ -9,8 +9,10 @@ use Rattle.ap_grammar.specs.Values.Value.{atom, formula, token}
 use Rattle.ap_grammar.specs.Grammar.{Name}
 use Rattle.ap_lexemes.specs.declared.levels.Level.{Level}
 use Rattle.ap_lexemes.specs.declared.role.Role.TheVariants as roles
-use Rattle.ap_lexemes.specs.Limits.{Levels, joined, role_of, with_member}
+use Rattle.ap_lexemes.specs.Limits.{Levels, depth_of, joined, role_of, with_member}
 use Rattle.limit_law.specs.Depths.{capped, depth, scan}
+use Rattle.limit_law.proofs.Quiet.{Quiet}
+use Rattle.limit_law.proofs.Last.{Last}
 use Rattle.limit_law.proofs.Scanning.{Grouped, Kept}
 
 -- ---- names, arguments and atoms
@@ -36,7 +38,9 @@ pub record ScansAtom (xs ys : List Lexeme) (v : Value) : Type 0 where
   pub is : v ≡ atom first tree
   pub read : List Lexeme
   pub tokens : xs ≡ read ++ ys
+  pub last : Last read
   pub scans : (s : Levels) → scan s read ≡ named s
+  pub quiet : (s : Levels) → depth_of (named s).level ≤ 64 → Quiet s read
 
 -- ---- formulas
 
@@ -44,9 +48,11 @@ pub record ScansAtom (xs ys : List Lexeme) (v : Value) : Type 0 where
 abbrev pub at : ℕ → ℕ → ℕ → Bool → ℕ → List Level → Levels
 at c d e n m os = record { level = record { commas = c; disjunction = d; conjunction = e; negated = n; member = m }; outer = os }
 
--- Behind a member, a conjunction or a disjunction of this depth. What stood before it at the level is still known.
-abbrev pub MemberDepth : List Lexeme → ℕ → Type 0
-MemberDepth read k = (c d e : ℕ) (os : List Level) → (n : Bool) × (scan (at c d e false 0 os) read ≡ at c d e n (capped k) os)
+-- What the scan comes to behind a member, a conjunction or a disjunction of this depth, where what stood before it at the level
+-- is still known, and at which depth no limit stands inside.
+pub record MemberDepth (read : List Lexeme) (k : ℕ) : Type 0 where
+  pub behind : (c d e : ℕ) (os : List Level) → (n : Bool) × (scan (at c d e false 0 os) read ≡ at c d e n (capped k) os)
+  pub quiet : (c d e : ℕ) (os : List Level) → joined d (joined e (capped k)) ≤ 64 → Quiet (at c d e false 0 os) read
 
 pub record BehindConjunction (read : List Lexeme) (k c d : ℕ) (os : List Level) (s : Levels) : Type 0 where
   pub conjunction : ℕ
@@ -55,8 +61,9 @@ pub record BehindConjunction (read : List Lexeme) (k c d : ℕ) (os : List Level
   pub scanned : scan s read ≡ at c d conjunction negated member os
   pub total : joined conjunction member ≡ capped k
 
-abbrev pub ConjunctionDepth : List Lexeme → ℕ → Type 0
-ConjunctionDepth read k = (c d : ℕ) (os : List Level) → BehindConjunction read k c d os (at c d 0 false 0 os)
+pub record ConjunctionDepth (read : List Lexeme) (k : ℕ) : Type 0 where
+  pub behind : (c d : ℕ) (os : List Level) → BehindConjunction read k c d os (at c d 0 false 0 os)
+  pub quiet : (c d : ℕ) (os : List Level) → joined d (capped k) ≤ 64 → Quiet (at c d 0 false 0 os) read
 
 pub record BehindDisjunction (read : List Lexeme) (k c : ℕ) (os : List Level) (s : Levels) : Type 0 where
   pub disjunction : ℕ
@@ -66,8 +73,9 @@ pub record BehindDisjunction (read : List Lexeme) (k c : ℕ) (os : List Level) 
   pub scanned : scan s read ≡ at c disjunction conjunction negated member os
   pub total : joined disjunction (joined conjunction member) ≡ capped k
 
-abbrev pub DisjunctionDepth : List Lexeme → ℕ → Type 0
-DisjunctionDepth read k = (c : ℕ) (os : List Level) → BehindDisjunction read k c os (at c 0 0 false 0 os)
+pub record DisjunctionDepth (read : List Lexeme) (k : ℕ) : Type 0 where
+  pub behind : (c : ℕ) (os : List Level) → BehindDisjunction read k c os (at c 0 0 false 0 os)
+  pub quiet : (c : ℕ) (os : List Level) → k ≤ 64 → Quiet (at c 0 0 false 0 os) read
 
 -- a formula, with what the scan comes to at its tokens by the depth of its tree
 pub record ScansFormula (HasDepth : List Lexeme → ℕ → Type 0) (xs ys : List Lexeme) (v : Value) : Type 0 where
@@ -76,20 +84,23 @@ pub record ScansFormula (HasDepth : List Lexeme → ℕ → Type 0) (xs ys : Lis
   pub is : v ≡ formula first tree
   pub read : List Lexeme
   pub tokens : xs ≡ read ++ ys
+  pub last : Last read
   pub positive : 1 ≤ depth tree
   pub scans : HasDepth read (depth tree)
 
 -- ---- all rules
 
+-- Rules of terms keep the levels around them, and so do the other rules in which no formula of a preference stands, but for
+-- the `not` of a literal.
 abbrev pub Scans : Name → List Lexeme → List Lexeme → Value → Type 0
 Scans Name.Ident xs ys v = ScansName xs ys v
 Scans Name.Arguments xs ys v = ScansArguments xs ys v
 Scans Name.Atom xs ys v = ScansAtom xs ys v
-Scans Name.Term xs ys v = Kept xs ys
-Scans Name.Sum xs ys v = Kept xs ys
-Scans Name.Product xs ys v = Kept xs ys
-Scans Name.Unary xs ys v = Kept xs ys
-Scans Name.Primary xs ys v = Kept xs ys
+Scans Name.Term xs ys v = Kept false xs ys
+Scans Name.Sum xs ys v = Kept false xs ys
+Scans Name.Product xs ys v = Kept false xs ys
+Scans Name.Unary xs ys v = Kept false xs ys
+Scans Name.Primary xs ys v = Kept false xs ys
 Scans Name.Formula xs ys v = ScansFormula DisjunctionDepth xs ys v
 Scans Name.Conjunction xs ys v = ScansFormula ConjunctionDepth xs ys v
 Scans Name.Member xs ys v = ScansFormula MemberDepth xs ys v

@@ -4,7 +4,7 @@ use Rattle.limit_law.proofs.Limits.{limit_behind, none_behind}
 use Rattle.limit_law.proofs.law.limit_of_a_formula.Goals as goal
 
 pub returns-clause-deep : goal.returns-clause-deep
-returns-clause-deep c = λ s read rest first f next h d n k. limit_behind (scan s read).level next (depth f) (behind s read rest first f h d).level n k
+returns-clause-deep c = λ s read rest f next i n h. limit_behind (scan s read).level next (depth f) (behind i).level n h
 
 pub returns-clause-within : goal.returns-clause-within
-returns-clause-within c = λ s read rest first f next h d k. none_behind (scan s read).level next (depth f) (behind s read rest first f h d).level k
+returns-clause-within c = λ s read rest f next i h. none_behind (scan s read).level next (depth f) (behind i).level h
