@@ -4,6 +4,7 @@ pub mod Limits
 pub mod Quiet
 pub mod Scanning
 pub mod Last
+pub mod Tells
 pub mod Scans
 pub mod Terms
 pub mod Formulas
