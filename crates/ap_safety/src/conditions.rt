@@ -8,7 +8,10 @@ ghost use Rattle.ap_safety.specs.Tests.{is_some_occurrence, has_variable as is_w
 use crate::safe::Safe;
 use ap_pieces::{Mention, Occurrence, Piece, Side, pieces_of};
 use ap_syntax::{ChoiceElement, Rule};
-use pred_graph::{Pred, body_aggregates, body_positives, body_preds, choice_elements, condition_positives_of, number_at, place_of, pred_of};
+use pred_graph::{
+    Pred, body_aggregates, body_positives, body_preds, choice_elements, condition_positives_of,
+    number_at, place_of, pred_of,
+};
 use std::alloc::{AllocError, Global};
 
 /// A condition that rules can fail.

@@ -178,18 +178,18 @@ more_members x {zs = zs} h p r = record {
   tokens = ap (λ ts. x ∷ ts) (tokens_then p.read r.read zs p.tokens r.tokens);
   last = λ before l. subst Last (append_assoc before (x ∷ p.read) r.read) (r.last (before ++ (x ∷ p.read)) (last_behind before (last_behind (x ∷ []) p.last)));
   scans = λ c d e m k n os i j.
-    let q = p.scans.behind c d (capped k) os in
-    conjunction_then (x ∷ p.read) r.read _ c d os (at c d e n m os) (at c d (capped k) q.0 (capped (depth p.tree)) os)
+      let q = p.scans.behind c d (capped k) os in
+      conjunction_then (x ∷ p.read) r.read _ c d os (at c d e n m os) (at c d (capped k) q.0 (capped (depth p.tree)) os)
       (ap (λ l. scan l p.read) (behind_and x c d e m k n os h j) ∙ q.1)
       (r.scans c d (capped k) (capped (depth p.tree)) (max k (depth p.tree) + 1) q.0 os (omega arith) (joined_capped k (depth p.tree) i p.positive));
   quiet = λ c d e m k n os i j bound.
-    let q = p.scans.behind c d (capped k) os in
-    let both = joined_capped k (depth p.tree) i p.positive in
-    let part = shallower d (max k (depth p.tree) + 1) (chain_from (max k (depth p.tree) + 1) r.trees) (chain_more (max k (depth p.tree) + 1) r.trees) (omega arith) bound in
-    sign_then x And (p.read ++ r.read) (at c d e n m os) (at c d (capped k) false 0 os) (ap role_of h) (silent_and (at c d e n m os)) (behind_and x c d e m k n os h j)
+      let q = p.scans.behind c d (capped k) os in
+      let both = joined_capped k (depth p.tree) i p.positive in
+      let part = shallower d (max k (depth p.tree) + 1) (chain_from (max k (depth p.tree) + 1) r.trees) (chain_more (max k (depth p.tree) + 1) r.trees) (omega arith) bound in
+      sign_then x And (p.read ++ r.read) (at c d e n m os) (at c d (capped k) false 0 os) (ap role_of h) (silent_and (at c d e n m os)) (behind_and x c d e m k n os h j)
       (quiet_then p.read r.read (at c d (capped k) false 0 os) (at c d (capped k) q.0 (capped (depth p.tree)) os) q.1
-        (p.scans.quiet c d (capped k) os (subst (λ b. joined d b ≤ 64) (sym both) part))
-        (r.quiet c d (capped k) (capped (depth p.tree)) (max k (depth p.tree) + 1) q.0 os (omega arith) both bound));
+      (p.scans.quiet c d (capped k) os (subst (λ b. joined d b ≤ 64) (sym both) part))
+      (r.quiet c d (capped k) (capped (depth p.tree)) (max k (depth p.tree) + 1) q.0 os (omega arith) both bound));
 }
 
 members_behind : {xs ys : List Lexeme} {vs : List Value} → Has (Star (Tok t.And ⨾ Call Name.Member)) xs ys vs → Members xs ys vs
@@ -200,8 +200,8 @@ conjunction_depth : {xs ys zs : List Lexeme} {v : Value} {vs : List Value} (p : 
 conjunction_depth p r = record {
   behind = λ c d os. let q = p.scans.behind c d 0 os in conjunction_then p.read r.read _ c d os (at c d 0 false 0 os) _ q.1 (r.scans c d 0 (capped (depth p.tree)) (depth p.tree) q.0 os p.positive refl);
   quiet = λ c d os h.
-    let q = p.scans.behind c d 0 os in
-    quiet_then p.read r.read (at c d 0 false 0 os) _ q.1
+      let q = p.scans.behind c d 0 os in
+      quiet_then p.read r.read (at c d 0 false 0 os) _ q.1
       (p.scans.quiet c d 0 os (shallower d (depth p.tree) (chain_from (depth p.tree) r.trees) (chain_more (depth p.tree) r.trees) p.positive h))
       (r.quiet c d 0 (capped (depth p.tree)) (depth p.tree) q.0 os p.positive refl h);
 }
@@ -258,18 +258,18 @@ more_conjunctions x {zs = zs} h p r = record {
   tokens = ap (λ ts. x ∷ ts) (tokens_then p.read r.read zs p.tokens r.tokens);
   last = λ before l. subst Last (append_assoc before (x ∷ p.read) r.read) (r.last (before ++ (x ∷ p.read)) (last_behind before (last_behind (x ∷ []) p.last)));
   scans = λ c d e m k n os i j.
-    let q = p.scans.behind c (capped k) os in
-    disjunction_then (x ∷ p.read) r.read _ c os (at c d e n m os) (at c (capped k) q.conjunction q.negated q.member os)
+      let q = p.scans.behind c (capped k) os in
+      disjunction_then (x ∷ p.read) r.read _ c os (at c d e n m os) (at c (capped k) q.conjunction q.negated q.member os)
       (ap (λ l. scan l p.read) (behind_or x c d e m k n os h j) ∙ q.scanned)
       (r.scans c (capped k) q.conjunction q.member (max k (depth p.tree) + 1) q.negated os (omega arith) (ap (joined (capped k)) q.total ∙ joined_capped k (depth p.tree) i p.positive));
   quiet = λ c d e m k n os i j bound.
-    let q = p.scans.behind c (capped k) os in
-    let both = joined_capped k (depth p.tree) i p.positive in
-    let part : max k (depth p.tree) + 1 ≤ 64 = omega (arith, bound, chain_more (max k (depth p.tree) + 1) r.trees) in
-    sign_then x Or (p.read ++ r.read) (at c d e n m os) (at c (capped k) 0 false 0 os) (ap role_of h) (silent_or (at c d e n m os)) (behind_or x c d e m k n os h j)
+      let q = p.scans.behind c (capped k) os in
+      let both = joined_capped k (depth p.tree) i p.positive in
+      let part : max k (depth p.tree) + 1 ≤ 64 = omega (arith, bound, chain_more (max k (depth p.tree) + 1) r.trees) in
+      sign_then x Or (p.read ++ r.read) (at c d e n m os) (at c (capped k) 0 false 0 os) (ap role_of h) (silent_or (at c d e n m os)) (behind_or x c d e m k n os h j)
       (quiet_then p.read r.read (at c (capped k) 0 false 0 os) (at c (capped k) q.conjunction q.negated q.member os) q.scanned
-        (p.scans.quiet c (capped k) os (subst (λ b. b ≤ 64) (sym both) (within_capped (max k (depth p.tree) + 1) part)))
-        (r.quiet c (capped k) q.conjunction q.member (max k (depth p.tree) + 1) q.negated os (omega arith) (ap (joined (capped k)) q.total ∙ both) bound));
+      (p.scans.quiet c (capped k) os (subst (λ b. b ≤ 64) (sym both) (within_capped (max k (depth p.tree) + 1) part)))
+      (r.quiet c (capped k) q.conjunction q.member (max k (depth p.tree) + 1) q.negated os (omega arith) (ap (joined (capped k)) q.total ∙ both) bound));
 }
 
 conjunctions_behind : {xs ys : List Lexeme} {vs : List Value} → Has (Star (Tok t.Or ⨾ Call Name.Conjunction)) xs ys vs → Conjunctions xs ys vs
@@ -280,8 +280,8 @@ disjunction_depth : {xs ys zs : List Lexeme} {v : Value} {vs : List Value} (p : 
 disjunction_depth p r = record {
   behind = λ c os. let q = p.scans.behind c 0 os in disjunction_then p.read r.read _ c os (at c 0 0 false 0 os) _ q.scanned (r.scans c 0 q.conjunction q.member (depth p.tree) q.negated os p.positive q.total);
   quiet = λ c os h.
-    let q = p.scans.behind c 0 os in
-    quiet_then p.read r.read (at c 0 0 false 0 os) _ q.scanned
+      let q = p.scans.behind c 0 os in
+      quiet_then p.read r.read (at c 0 0 false 0 os) _ q.scanned
       (p.scans.quiet c 0 os (within_capped (depth p.tree) (omega (arith, h, chain_more (depth p.tree) r.trees))))
       (r.quiet c 0 q.conjunction q.member (depth p.tree) q.negated os p.positive q.total h);
 }

@@ -163,8 +163,8 @@ kept_token {n = n} x xs h = record {
   read = x ∷ [];
   tokens = refl;
   keeps = λ k s f b.
-    let c = flat_bare n k s (role_of x.terminal) h f b in
-    record { outer = flat_outer n s (role_of x.terminal) h; bare = c; quiet = (silent s (role_of x.terminal) (bare_depth k (after s (role_of x.terminal)).level c), tt) };
+      let c = flat_bare n k s (role_of x.terminal) h f b in
+      record { outer = flat_outer n s (role_of x.terminal) h; bare = c; quiet = (silent s (role_of x.terminal) (bare_depth k (after s (role_of x.terminal)).level c), tt) };
 }
 
 -- ---- tokens between parentheses, with these

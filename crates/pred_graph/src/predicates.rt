@@ -64,10 +64,7 @@ fn push_positives(
 }
 
 /// The predicates of a condition.
-pub fn condition_preds_of(
-    alloc: Global,
-    literals: &[Literal],
-) -> Result<Items<Pred>, AllocError>
+pub fn condition_preds_of(alloc: Global, literals: &[Literal]) -> Result<Items<Pred>, AllocError>
     ensures { IfOk result (λ preds. preds ≡ preds_of literals.now) }
 {
     let mut preds = Items::new(alloc);

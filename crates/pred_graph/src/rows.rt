@@ -38,11 +38,7 @@ fn rows_of(alloc: Global, nodes: usize, edges: &[Edge]) -> Result<Vec<Items<usiz
 }
 
 /// A number for each node: that of its component.
-pub fn numbers_of(
-    alloc: Global,
-    nodes: usize,
-    edges: &[Edge],
-) -> Result<Items<u64>, AllocError>
+pub fn numbers_of(alloc: Global, nodes: usize, edges: &[Edge]) -> Result<Items<u64>, AllocError>
     requires { All (IsEdgeBelow nodes) edges.now }
     ensures { IfOk result (AreNumbers nodes edges.now) }
 {
