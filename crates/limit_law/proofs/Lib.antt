@@ -1,0 +1,10 @@
+pub mod Numbers
+pub mod Trees
+pub mod Limits
+pub mod Quiet
+pub mod Scanning
+pub mod Last
+pub mod Tells
+pub mod Scans
+pub mod Terms
+pub mod Formulas

@@ -1,0 +1,31 @@
+// The laws.
+ghost use Rattle.std.specs.Prelude.{◌≡◌, ◌≢◌, ◌<◌, ◌≤◌, List, None, Some};
+ghost use Rattle.ap_grammar.specs.Lexemes.{Lexeme};
+ghost use Rattle.ap_lexemes.specs.Limits.{Levels, depth_of, formula_limit, next_role};
+ghost use Rattle.ap_lexemes.specs.declared.limit.Limit.TheVariants as limits;
+ghost use Rattle.ap_lexemes.specs.declared.role.Role.{Role};
+ghost use Rattle.ap_lexemes.specs.declared.role.Role.TheVariants as roles;
+ghost use Rattle.ap_syntax.specs.declared.preferences.Formula.{Formula};
+ghost use Rattle.limit_law.specs.Depths.{capped, depth, scan};
+ghost use Rattle.limit_law.specs.Stands.{IsFormula, Stands};
+
+/// The scan of a formula's tokens comes to the depth of the formula's tree, up to 65.
+pub fn depth_of_a_formula()
+    ensures depth { (s : Levels) (read rest : List Lexeme) (f : Formula) → IsFormula s read rest f → depth_of (scan s read).level ≡ capped (depth f) }
+    // The parentheses of the formula are closed, and its commas are none of the level's.
+    ensures outer { (s : Levels) (read rest : List Lexeme) (f : Formula) → IsFormula s read rest f → (scan s read).outer ≡ s.outer }
+    ensures commas { (s : Levels) (read rest : List Lexeme) (f : Formula) → IsFormula s read rest f → (scan s read).level.commas ≡ s.level.commas }
+{}
+
+/// Where a formula ends, its limit stands exactly if the depth of its tree is more than 64.
+pub fn limit_of_a_formula()
+    ensures deep { (s : Levels) (read rest : List Lexeme) (f : Formula) (next : Role) → IsFormula s read rest f → next ≢ roles.And → 64 < depth f → formula_limit (scan s read).level next ≡ Some limits.Formula }
+    ensures within { (s : Levels) (read rest : List Lexeme) (f : Formula) (next : Role) → IsFormula s read rest f → depth f ≤ 64 → formula_limit (scan s read).level next ≡ None }
+{}
+
+/// At the tokens of a formula, its parts among them, a limit of formulas stands exactly if the depth of its tree is more than 64.
+pub fn limit_in_a_formula()
+    // A `&` or a `(` behind it would go on with its last member.
+    ensures deep { (s : Levels) (read rest : List Lexeme) (f : Formula) → IsFormula s read rest f → next_role rest ≢ roles.And → next_role rest ≢ roles.Open → 64 < depth f → Stands s read rest }
+    ensures within { (s : Levels) (read rest : List Lexeme) (f : Formula) → IsFormula s read rest f → depth f ≤ 64 → Stands s read rest → ⊥ }
+{}
