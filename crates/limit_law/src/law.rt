@@ -1,12 +1,18 @@
 // The laws.
-ghost use Rattle.std.specs.Prelude.{◌≡◌, ◌≢◌, ◌<◌, ◌≤◌, List, None, Some};
+ghost use Rattle.std.specs.Prelude.{◌≡◌, ◌≢◌, ◌<◌, ◌≤◌, Bool, IfSome, List, None, Some, [], false, true};
+ghost use Rattle.std.specs.List.{list_all};
+ghost use Rattle.grammar.specs.Fault.{IsText};
+ghost use Rattle.ap_grammar.specs.Grammar.{Name, grammar};
 ghost use Rattle.ap_grammar.specs.Lexemes.{Lexeme};
-ghost use Rattle.ap_lexemes.specs.Limits.{Levels, depth_of, formula_limit, next_role};
+ghost use Rattle.ap_grammar.specs.Values.Value.{program};
+ghost use Rattle.ap_lexemes.specs.Limits.{Levels, depth_of, first_limit, formula_limit, next_role, no_levels};
 ghost use Rattle.ap_lexemes.specs.declared.limit.Limit.TheVariants as limits;
 ghost use Rattle.ap_lexemes.specs.declared.role.Role.{Role};
 ghost use Rattle.ap_lexemes.specs.declared.role.Role.TheVariants as roles;
 ghost use Rattle.ap_syntax.specs.declared.preferences.Formula.{Formula};
+ghost use Rattle.ap_syntax.specs.declared.programs.Statement.{Statement};
 ghost use Rattle.limit_law.specs.Depths.{capped, depth, scan};
+ghost use Rattle.limit_law.specs.Programs.{formulas_of, is_in_bounds};
 ghost use Rattle.limit_law.specs.Stands.{IsFormula, Stands};
 
 /// The scan of a formula's tokens comes to the depth of the formula's tree, up to 65.
@@ -28,4 +34,14 @@ pub fn limit_in_a_formula()
     // A `&` or a `(` behind it would go on with its last member.
     ensures deep { (s : Levels) (read rest : List Lexeme) (f : Formula) → IsFormula s read rest f → next_role rest ≢ roles.And → next_role rest ≢ roles.Open → 64 < depth f → Stands s read rest }
     ensures within { (s : Levels) (read rest : List Lexeme) (f : Formula) → IsFormula s read rest f → depth f ≤ 64 → Stands s read rest → ⊥ }
+{}
+
+/// In a text, the first limit is one of formulas only if one of the text's formulas is deeper than 64, and a text with such a
+/// formula has a limit.
+pub fn limit_of_a_text()
+    ensures deep { (whole of_type : Bool) (xs : List Lexeme) (statements : List Statement) → IsText grammar (Name.Text whole of_type) xs (program statements) → first_limit xs ≡ None → list_all is_in_bounds (formulas_of statements) ≡ true }
+    ensures within { (whole of_type : Bool) (xs : List Lexeme) (statements : List Statement) → IsText grammar (Name.Text whole of_type) xs (program statements) → list_all is_in_bounds (formulas_of statements) ≡ true → IfSome (first_limit xs) (λ l. l.which ≢ limits.Formula) }
+    // Whatever other limits there are, one of formulas stands exactly if one of the formulas is deeper than 64.
+    ensures stands { (whole of_type : Bool) (xs : List Lexeme) (statements : List Statement) → IsText grammar (Name.Text whole of_type) xs (program statements) → list_all is_in_bounds (formulas_of statements) ≡ false → Stands no_levels xs [] }
+    ensures none { (whole of_type : Bool) (xs : List Lexeme) (statements : List Statement) → IsText grammar (Name.Text whole of_type) xs (program statements) → list_all is_in_bounds (formulas_of statements) ≡ true → Stands no_levels xs [] → ⊥ }
 {}

@@ -1,5 +1,5 @@
 use Rattle.limit_law.specs.Depths.{depth, scan}
-use Rattle.limit_law.proofs.Formulas.{behind}
+use Rattle.limit_law.proofs.Rules.{behind}
 use Rattle.limit_law.proofs.Limits.{limit_behind, none_behind}
 use Rattle.limit_law.proofs.law.limit_of_a_formula.Goals as goal
 
