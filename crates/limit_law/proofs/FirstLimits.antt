@@ -1,7 +1,6 @@
 -- The first limit, and where limits of formulas stand.
 use Rattle.std.proofs.Common.{◌≡◌, ◌≢◌, ℕ, ◌+◌, Bool, true, false, List, [], ◌∷◌, ◌++◌, refl, sym, ap, subst, ◌∙◌}
-use Rattle.std.specs.Prelude.{Option, None, Some, IfSome}
-use Rattle.std.specs.List.{list_all}
+use Rattle.std.specs.Prelude.{Option, None, Some, IfSome, Ok}
 use Rattle.std.proofs.lemmas.List.{append-nil}
 use Rattle.grammar.specs.Fault.{IsText}
 use Rattle.ap_syntax.specs.declared.preferences.Formula.{Formula as FormulaTree}
@@ -13,11 +12,12 @@ use Rattle.ap_lexemes.specs.declared.limit.Limit.{Limit}
 use Rattle.ap_lexemes.specs.declared.limit.Limit.TheVariants.{Formula}
 use Rattle.ap_lexemes.specs.declared.limit.LimitAt.{LimitAt}
 use Rattle.ap_lexemes.specs.Limits.{Levels, after, first_limit, limit_at, limit_from, limit_or, next_role, no_levels, role_of}
+use Rattle.ap_lexemes.specs.Texts.{IsOutcome}
 use Rattle.limit_law.specs.Depths.{scan}
-use Rattle.limit_law.specs.Programs.{formulas_of, is_in_bounds}
+use Rattle.limit_law.specs.Programs.{formulas_of}
 use Rattle.limit_law.specs.Stands.{Stands}
-use Rattle.limit_law.proofs.Quiet.{Quiet, Silent, none_stands}
-use Rattle.limit_law.proofs.Tells.{Tells, Whole, all_in_bounds}
+use Rattle.limit_law.proofs.Quiet.{Quiet}
+use Rattle.limit_law.proofs.Tells.{Tells, all_in_bounds}
 use Rattle.limit_law.proofs.Rules.{text_whole}
 
 abbrev OtherLimit : Option LimitAt → Type 0
@@ -65,3 +65,6 @@ in_bounds xs fs p e = or_false (all_in_bounds fs) (λ h. stands_first xs (p.loud
 
 pub other_first : (xs : List Lexeme) (fs : List FormulaTree) → Tells no_levels xs [] fs → all_in_bounds fs ≡ true → IfSome (first_limit xs) (λ l. l.which ≢ Formula)
 other_first xs fs p h = quiet_first no_levels 0 xs (p.quiet h)
+
+pub accepted : {whole of_type : Bool} {xs : List Lexeme} {end : ℕ} {is_cut : Bool} {ss : List Statement} → IsOutcome (Name.Text whole of_type) xs end is_cut (Ok (program ss)) → all_in_bounds (formulas_of ss) ≡ true
+accepted {xs = xs} {ss = ss} (IsOutcome.good d e c) = in_bounds xs (formulas_of ss) (text_tells d) e

@@ -11,18 +11,18 @@ use Rattle.ap_grammar.specs.declared.terminals.Terminal.TheVariants as t
 use Rattle.ap_grammar.specs.Lexemes.{Lexeme}
 use Rattle.ap_grammar.specs.Values.{Value, as_formula, collected}
 use Rattle.ap_grammar.specs.Values.Value.{formula, token}
-use Rattle.ap_grammar.specs.Grammar.{Name, conjunction_of, disjunction_of, grammar, made, rule_of}
+use Rattle.ap_grammar.specs.Grammar.{Name, conjunction_of, disjunction_of, made, rule_of}
 use Rattle.ap_lexemes.specs.declared.levels.Level.{Level}
 use Rattle.ap_lexemes.specs.declared.role.Role.{Role}
 use Rattle.ap_lexemes.specs.declared.role.Role.TheVariants.{And, Or}
-use Rattle.ap_lexemes.specs.Limits.{Levels, after, depth_of, joined, member_depth, role_of}
+use Rattle.ap_lexemes.specs.Limits.{Levels, after, conjunction_depth, depth_of, joined, member_depth, role_of}
 use Rattle.limit_law.specs.Depths.{IsFresh, capped, depth, scan}
-use Rattle.limit_law.proofs.Numbers.{capped_in_bounds, deeper_capped, joined_capped, member_in_bounds, right_in_bounds, shallower, within_capped}
+use Rattle.limit_law.proofs.Numbers.{deeper_capped, joined_capped, member_in_bounds, right_in_bounds, shallower, within_capped}
 use Rattle.limit_law.proofs.Trees.{of_atom, of_conjunction, of_disjunction, of_not}
 use Rattle.limit_law.proofs.Quiet.{Quiet, Silent, quiet_then, scan_append, silent_and, silent_is, silent_not, silent_or}
 use Rattle.limit_law.proofs.Last.{Last, last_behind}
 use Rattle.limit_law.proofs.Scanning.{after_is, around, group_tokens, inside, last_close, quiet_group, scan_group, tokens_then}
-use Rattle.limit_law.proofs.Scans.{BehindConjunction, BehindDisjunction, ConjunctionDepth, DisjunctionDepth, MemberDepth, Scans, ScansAtom, ScansFormula, at}
+use Rattle.limit_law.proofs.Scans.{BehindConjunction, BehindDisjunction, ConjunctionDepth, DisjunctionDepth, MemberDepth, ScansAtom, ScansFormula, at}
 use Rattle.limit_law.proofs.Terms.{Has}
 
 -- ---- members
@@ -177,30 +177,30 @@ more_members x {zs = zs} h p r = record {
   tokens = ap (λ ts. x ∷ ts) (tokens_then p.read r.read zs p.tokens r.tokens);
   last = λ before l. subst Last (append_assoc before (x ∷ p.read) r.read) (r.last (before ++ (x ∷ p.read)) (last_behind before (last_behind (x ∷ []) p.last)));
   scans = λ c d e m k n os i j.
-    let q = p.scans.behind c d (capped k) os in
-    conjunction_then (x ∷ p.read) r.read _ c d os (at c d e n m os) (at c d (capped k) q.0 (capped (depth p.tree)) os)
+      let q = p.scans.behind c d (capped k) os in
+      conjunction_then (x ∷ p.read) r.read _ c d os (at c d e n m os) (at c d (capped k) q.0 (capped (depth p.tree)) os)
       (ap (λ l. scan l p.read) (behind_and x c d e m k n os h j) ∙ q.1)
       (r.scans c d (capped k) (capped (depth p.tree)) (max k (depth p.tree) + 1) q.0 os (omega arith) (joined_capped k (depth p.tree) i p.positive));
   quiet = λ c d e m k n os i j bound.
-    let q = p.scans.behind c d (capped k) os in
-    let both = joined_capped k (depth p.tree) i p.positive in
-    let part = shallower d (max k (depth p.tree) + 1) (chain_from (max k (depth p.tree) + 1) r.trees) (chain_more (max k (depth p.tree) + 1) r.trees) (omega arith) bound in
-    sign_then x And (p.read ++ r.read) (at c d e n m os) (at c d (capped k) false 0 os) (ap role_of h) (silent_and (at c d e n m os)) (behind_and x c d e m k n os h j)
+      let q = p.scans.behind c d (capped k) os in
+      let both = joined_capped k (depth p.tree) i p.positive in
+      let part = shallower d (max k (depth p.tree) + 1) (chain_from (max k (depth p.tree) + 1) r.trees) (chain_more (max k (depth p.tree) + 1) r.trees) (omega arith) bound in
+      sign_then x And (p.read ++ r.read) (at c d e n m os) (at c d (capped k) false 0 os) (ap role_of h) (silent_and (at c d e n m os)) (behind_and x c d e m k n os h j)
       (quiet_then p.read r.read (at c d (capped k) false 0 os) (at c d (capped k) q.0 (capped (depth p.tree)) os) q.1
-        (p.scans.quiet c d (capped k) os (subst (λ b. joined d b ≤ 64) (sym both) part))
-        (r.quiet c d (capped k) (capped (depth p.tree)) (max k (depth p.tree) + 1) q.0 os (omega arith) both bound));
+      (p.scans.quiet c d (capped k) os (subst (λ b. joined d b ≤ 64) (sym both) part))
+      (r.quiet c d (capped k) (capped (depth p.tree)) (max k (depth p.tree) + 1) q.0 os (omega arith) both bound));
 }
 
 members_behind : {xs ys : List Lexeme} {vs : List Value} → Has (Star (Tok t.And ⨾ Call Name.Member)) xs ys vs → Members xs ys vs
 members_behind (Reads.none {xs = xs}) = no_members xs
 members_behind (Reads.more (Reads.seq (Reads.tok {t = x} e) (Reads.call m)) rest) = more_members x e m (members_behind rest)
 
-conjunction_depth : {xs ys zs : List Lexeme} {v : Value} {vs : List Value} (p : ScansFormula MemberDepth xs ys v) (r : Members ys zs vs) → ConjunctionDepth (p.read ++ r.read) (chain_from (depth p.tree) r.trees)
-conjunction_depth p r = record {
+chain_depths : {xs ys zs : List Lexeme} {v : Value} {vs : List Value} (p : ScansFormula MemberDepth xs ys v) (r : Members ys zs vs) → ConjunctionDepth (p.read ++ r.read) (chain_from (depth p.tree) r.trees)
+chain_depths p r = record {
   behind = λ c d os. let q = p.scans.behind c d 0 os in conjunction_then p.read r.read _ c d os (at c d 0 false 0 os) _ q.1 (r.scans c d 0 (capped (depth p.tree)) (depth p.tree) q.0 os p.positive refl);
   quiet = λ c d os h.
-    let q = p.scans.behind c d 0 os in
-    quiet_then p.read r.read (at c d 0 false 0 os) _ q.1
+      let q = p.scans.behind c d 0 os in
+      quiet_then p.read r.read (at c d 0 false 0 os) _ q.1
       (p.scans.quiet c d 0 os (shallower d (depth p.tree) (chain_from (depth p.tree) r.trees) (chain_more (depth p.tree) r.trees) p.positive h))
       (r.quiet c d 0 (capped (depth p.tree)) (depth p.tree) q.0 os p.positive refl h);
 }
@@ -214,7 +214,7 @@ conjunction_made {zs = zs} p r = rw (p.is, r.are) (record {
   tokens = tokens_then p.read r.read zs p.tokens r.tokens;
   last = r.last p.read p.last;
   positive = rw (of_conjunction p.tree r.trees) (chain_positive (depth p.tree) r.trees p.positive);
-  scans = subst (ConjunctionDepth (p.read ++ r.read)) (sym (of_conjunction p.tree r.trees)) (conjunction_depth p r);
+  scans = subst (ConjunctionDepth (p.read ++ r.read)) (sym (of_conjunction p.tree r.trees)) (chain_depths p r);
 })
 
 pub conjunction_scans : {xs ys : List Lexeme} {vs : List Value} → Has (rule_of Name.Conjunction) xs ys vs → ScansFormula ConjunctionDepth xs ys (made Name.Conjunction vs)
@@ -257,18 +257,18 @@ more_conjunctions x {zs = zs} h p r = record {
   tokens = ap (λ ts. x ∷ ts) (tokens_then p.read r.read zs p.tokens r.tokens);
   last = λ before l. subst Last (append_assoc before (x ∷ p.read) r.read) (r.last (before ++ (x ∷ p.read)) (last_behind before (last_behind (x ∷ []) p.last)));
   scans = λ c d e m k n os i j.
-    let q = p.scans.behind c (capped k) os in
-    disjunction_then (x ∷ p.read) r.read _ c os (at c d e n m os) (at c (capped k) q.conjunction q.negated q.member os)
+      let q = p.scans.behind c (capped k) os in
+      disjunction_then (x ∷ p.read) r.read _ c os (at c d e n m os) (at c (capped k) q.conjunction q.negated q.member os)
       (ap (λ l. scan l p.read) (behind_or x c d e m k n os h j) ∙ q.scanned)
       (r.scans c (capped k) q.conjunction q.member (max k (depth p.tree) + 1) q.negated os (omega arith) (ap (joined (capped k)) q.total ∙ joined_capped k (depth p.tree) i p.positive));
   quiet = λ c d e m k n os i j bound.
-    let q = p.scans.behind c (capped k) os in
-    let both = joined_capped k (depth p.tree) i p.positive in
-    let part : max k (depth p.tree) + 1 ≤ 64 = omega (arith, bound, chain_more (max k (depth p.tree) + 1) r.trees) in
-    sign_then x Or (p.read ++ r.read) (at c d e n m os) (at c (capped k) 0 false 0 os) (ap role_of h) (silent_or (at c d e n m os)) (behind_or x c d e m k n os h j)
+      let q = p.scans.behind c (capped k) os in
+      let both = joined_capped k (depth p.tree) i p.positive in
+      let part : max k (depth p.tree) + 1 ≤ 64 = omega (arith, bound, chain_more (max k (depth p.tree) + 1) r.trees) in
+      sign_then x Or (p.read ++ r.read) (at c d e n m os) (at c (capped k) 0 false 0 os) (ap role_of h) (silent_or (at c d e n m os)) (behind_or x c d e m k n os h j)
       (quiet_then p.read r.read (at c (capped k) 0 false 0 os) (at c (capped k) q.conjunction q.negated q.member os) q.scanned
-        (p.scans.quiet c (capped k) os (subst (λ b. b ≤ 64) (sym both) (within_capped (max k (depth p.tree) + 1) part)))
-        (r.quiet c (capped k) q.conjunction q.member (max k (depth p.tree) + 1) q.negated os (omega arith) (ap (joined (capped k)) q.total ∙ both) bound));
+      (p.scans.quiet c (capped k) os (subst (λ b. b ≤ 64) (sym both) (within_capped (max k (depth p.tree) + 1) part)))
+      (r.quiet c (capped k) q.conjunction q.member (max k (depth p.tree) + 1) q.negated os (omega arith) (ap (joined (capped k)) q.total ∙ both) bound));
 }
 
 conjunctions_behind : {xs ys : List Lexeme} {vs : List Value} → Has (Star (Tok t.Or ⨾ Call Name.Conjunction)) xs ys vs → Conjunctions xs ys vs
@@ -279,8 +279,8 @@ disjunction_depth : {xs ys zs : List Lexeme} {v : Value} {vs : List Value} (p : 
 disjunction_depth p r = record {
   behind = λ c os. let q = p.scans.behind c 0 os in disjunction_then p.read r.read _ c os (at c 0 0 false 0 os) _ q.scanned (r.scans c 0 q.conjunction q.member (depth p.tree) q.negated os p.positive q.total);
   quiet = λ c os h.
-    let q = p.scans.behind c 0 os in
-    quiet_then p.read r.read (at c 0 0 false 0 os) _ q.scanned
+      let q = p.scans.behind c 0 os in
+      quiet_then p.read r.read (at c 0 0 false 0 os) _ q.scanned
       (p.scans.quiet c 0 os (within_capped (depth p.tree) (omega (arith, h, chain_more (depth p.tree) r.trees))))
       (r.quiet c 0 q.conjunction q.member (depth p.tree) q.negated os p.positive q.total h);
 }
@@ -327,3 +327,14 @@ behind_is s h p =
       last = p.last;
       quiet = λ i. subst (λ t. Quiet t p.read) (sym (fresh_is s h)) (p.scans.quiet s.level.commas s.outer i);
     }
+
+-- ---- a conjunction at a level
+
+conjunction_at : (c d e m : ℕ) (n : Bool) (os : List Level) → e ≡ 0 → n ≡ false → m ≡ 0 → at c d e n m os ≡ at c d 0 false 0 os
+conjunction_at c d e m n os f g h = rw (f, g, h) refl
+
+pub conjunction_is : (s : Levels) {xs ys : List Lexeme} {v : Value} → s.level.conjunction ≡ 0 → s.level.negated ≡ false → s.level.member ≡ 0 → (p : ScansFormula ConjunctionDepth xs ys v) → conjunction_depth (scan s p.read).level ≡ capped (depth p.tree)
+conjunction_is s f g h p =
+    let b = p.scans.behind s.level.commas s.level.disjunction s.outer in
+    let e = ap (λ t. scan t p.read) (conjunction_at s.level.commas s.level.disjunction s.level.conjunction s.level.member s.level.negated s.outer f g h) ∙ b.scanned in
+    ap (λ (t : Levels). conjunction_depth t.level) e ∙ b.total

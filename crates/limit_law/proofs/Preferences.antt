@@ -1,9 +1,8 @@
 -- Preference statements.
-use Rattle.std.proofs.Common.{◌≡◌, ◌≢◌, ℕ, ◌<◌, ◌≤◌, Bool, true, false, List, [], ◌∷◌, ◌++◌, refl, sym, ap, subst, ◌∙◌, append_assoc, arith, Option, None, Some}
+use Rattle.std.proofs.Common.{◌≡◌, ◌≢◌, ℕ, ◌<◌, ◌≤◌, true, false, List, [], ◌∷◌, ◌++◌, refl, sym, ap, subst, ◌∙◌, append_assoc, arith, Option, None, Some}
 use Rattle.std.specs.Prelude.{◌&&◌, flat_map, nat_le}
 use Rattle.std.proofs.lemmas.List.{append-nil}
 use Rattle.std.proofs.lemmas.Grind.{flat_map-append}
-use Rattle.std.proofs.lemmas.Bool.{and_parts}
 use Rattle.std.proofs.lemmas.Bool.Decides.{nat_tests}
 use Rattle.grammar.specs.Form.{◌⨾◌}
 use Rattle.grammar.specs.Form.Form.{Tok, Call, Star}
@@ -15,17 +14,17 @@ use Rattle.ap_syntax.specs.declared.preferences.Target.{Target as TargetTree}
 use Rattle.ap_grammar.specs.declared.terminals.Terminal.TheVariants as t
 use Rattle.ap_grammar.specs.Lexemes.{Lexeme}
 use Rattle.ap_grammar.specs.Values.{Value, as_element, as_given, as_ranked, as_target, collected, first_of, found}
-use Rattle.ap_grammar.specs.Values.Value.{ranked, target, token}
+use Rattle.ap_grammar.specs.Values.Value.{token}
 use Rattle.ap_grammar.specs.Grammar.{Name, in_braces, made, many, or_nothing, rule_of}
 use Rattle.ap_lexemes.specs.declared.role.Role.{Role}
 use Rattle.ap_lexemes.specs.declared.role.Role.TheVariants as roles
 use Rattle.ap_lexemes.specs.Limits.{Levels, next_role, role_of}
-use Rattle.limit_law.specs.Depths.{IsFresh, depth, scan}
-use Rattle.limit_law.specs.Programs.{element_formulas, given_formulas, is_in_bounds, ranked_formulas, target_formulas}
+use Rattle.limit_law.specs.Depths.{depth, scan}
+use Rattle.limit_law.specs.Programs.{element_formulas, given_formulas, ranked_formulas, target_formulas}
 use Rattle.limit_law.proofs.Limits.{limit_behind}
 use Rattle.limit_law.proofs.Last.{stands_last}
 use Rattle.limit_law.proofs.Scanning.{Kept, group, grouped_kept, kept_none, kept_then, kept_token}
-use Rattle.limit_law.proofs.Tells.{Formed, Goes, Tail, Tells, formed_then, kept_alone, kept_formed, may_follow, tail_formed, Whole, tail_none, tail_then, whole_dot}
+use Rattle.limit_law.proofs.Tells.{Formed, Goes, Tail, formed_then, kept_alone, kept_formed, may_follow, tail_formed, Whole, tail_none, tail_then, whole_dot}
 use Rattle.limit_law.proofs.Scans.{DisjunctionDepth, ScansDomain, ScansElement, ScansFormula, ScansGiven, ScansKind, ScansName, ScansRanked, ScansStatement, ScansTarget}
 use Rattle.limit_law.proofs.Terms.{Has, form_kept, name_kept}
 use Rattle.limit_law.proofs.Formulas.{Behind, behind_is}

@@ -10,13 +10,14 @@ use Rattle.ap_grammar.specs.Lexemes.{Lexeme}
 use Rattle.ap_grammar.specs.Values.{Value}
 use Rattle.ap_grammar.specs.Values.Value.{formula, program}
 use Rattle.ap_grammar.specs.Grammar.{Name, grammar, made, rule_of}
-use Rattle.ap_lexemes.specs.Limits.{Levels}
+use Rattle.ap_lexemes.specs.Limits.{Levels, conjunction_depth}
+use Rattle.limit_law.specs.Depths.{capped, depth, scan}
 use Rattle.limit_law.specs.Programs.{formulas_of}
-use Rattle.limit_law.specs.Stands.{IsFormula}
+use Rattle.limit_law.specs.Stands.{IsConjunction, IsFormula}
 use Rattle.limit_law.proofs.Tells.{Whole}
 use Rattle.limit_law.proofs.Scans.{Scans}
 use Rattle.limit_law.proofs.Terms.{Has, arguments_scans, atom_scans, form_kept, kind_scans, name_scans, primary_scans, product_scans, sum_scans, term_scans, unary_scans}
-use Rattle.limit_law.proofs.Formulas.{Behind, behind_is, conjunction_scans, formula_scans, member_scans}
+use Rattle.limit_law.proofs.Formulas.{Behind, behind_is, conjunction_is, conjunction_scans, formula_scans, member_scans}
 use Rattle.limit_law.proofs.Preferences.{domain_scans, element_scans, given_scans, preference_scans, ranked_scans, target_scans}
 use Rattle.limit_law.proofs.Statements.{base_plain, base_scans, const_plain, defined_plain, dotted, optimize_scans, plain_scans, rule_plain, show_plain, small_statement, statement_scans, text_scans, type_scans, type_section_scans}
 
@@ -76,6 +77,12 @@ behind {s = s} {read = front} {rest = rest} {f = f} i = by_reading (read_by rule
   where
     by_reading : Has (Call Name.Formula) (front ++ rest) rest (formula i.first f ∷ []) → Behind s front f
     by_reading (Reads.call p) = subst (λ ts. Behind s ts f) (sym (append_cancel_right front p.read rest p.tokens)) (subst (Behind s p.read) (same_tree i.first p.first f p.tree p.is) (behind_is s i.fresh p))
+
+pub conjunction_behind : {s : Levels} {read rest : List Lexeme} {f : FormulaTree} → IsConjunction s read rest f → conjunction_depth (scan s read).level ≡ capped (depth f)
+conjunction_behind {s = s} {read = front} {rest = rest} {f = f} i = by_reading (read_by rule_scans i.derives)
+  where
+    by_reading : Has (Call Name.Conjunction) (front ++ rest) rest (formula i.first f ∷ []) → conjunction_depth (scan s front).level ≡ capped (depth f)
+    by_reading (Reads.call p) = subst (λ ts. conjunction_depth (scan s ts).level ≡ capped (depth f)) (sym (append_cancel_right front p.read rest p.tokens)) (subst (λ g. conjunction_depth (scan s p.read).level ≡ capped (depth g)) (same_tree i.first p.first f p.tree p.is) (conjunction_is s i.conjunction i.negated i.member p))
 
 -- a text, with its formulas
 pub text_whole : {whole of_type : Bool} {xs ys : List Lexeme} {ss : List Statement} → Derives grammar (Call (Name.Text whole of_type)) xs ys (program ss ∷ []) → Whole xs ys (formulas_of ss)

@@ -1,5 +1,5 @@
 -- What the scan does at the tokens of each rule.
-use Rattle.std.proofs.Common.{◌≡◌, ℕ, ◌≤◌, Bool, true, false, List, [], ◌∷◌, ◌++◌, Option, None}
+use Rattle.std.proofs.Common.{◌≡◌, ℕ, ◌≤◌, Bool, true, false, List, [], ◌∷◌, ◌++◌, None}
 use Rattle.ap_syntax.specs.declared.terms.Atom.{Atom as AtomTree}
 use Rattle.ap_syntax.specs.declared.terms.Term.{Term as TermTree}
 use Rattle.ap_syntax.specs.declared.preferences.Formula.{Formula as FormulaTree}

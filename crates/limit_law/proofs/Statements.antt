@@ -7,10 +7,9 @@ use Rattle.std.proofs.lemmas.Bool.{and_parts}
 use Rattle.grammar.specs.Form.{◌∣◌}
 use Rattle.grammar.specs.Form.Form.{Tok, Call, Empty, Seq, Alt, Star, Then}
 use Rattle.grammar.proofs.Interpret.{Reads}
-use Rattle.ap_grammar.specs.declared.terminals.Terminal.TheVariants as t
 use Rattle.ap_grammar.specs.Lexemes.{Lexeme}
 use Rattle.ap_grammar.specs.Values.{Value}
-use Rattle.ap_grammar.specs.Values.Value.{program, statement, token}
+use Rattle.ap_grammar.specs.Values.Value.{program, statement}
 use Rattle.ap_grammar.specs.Grammar.{Name, Rhs, made, rule_of, statements_of}
 use Rattle.ap_lexemes.specs.declared.role.Role.{Role}
 use Rattle.ap_lexemes.specs.declared.role.Role.TheVariants as roles
@@ -18,7 +17,7 @@ use Rattle.ap_lexemes.specs.Limits.{role_of}
 use Rattle.limit_law.specs.Programs.{formulas_of, statement_formulas}
 use Rattle.limit_law.proofs.Scanning.{Kept, group, grouped_kept, kept_none, kept_then, kept_token}
 use Rattle.limit_law.proofs.Tells.{Whole, kept_alone, whole_dot, whole_none, whole_then}
-use Rattle.limit_law.proofs.Scans.{ScansKind, ScansName, ScansStatement, alone, formulas_in}
+use Rattle.limit_law.proofs.Scans.{ScansStatement, alone, formulas_in}
 use Rattle.limit_law.proofs.Terms.{Has, form_kept, is_open_free, name_kept}
 
 -- ---- statements with no formulas
@@ -134,7 +133,6 @@ of_statements [] = refl
 of_statements (statement s ∷ vs) = ap (λ fs. statement_formulas s ++ fs) (of_statements vs)
 of_statements (program ss ∷ vs) = flat_map-append statement_formulas ss (statements_of vs) ∙ ap (λ fs. formulas_of ss ++ fs) (of_statements vs)
 of_statements (v ∷ vs) = of_statements vs
-
 
 wholes_then : {xs ys zs : List Lexeme} (us vs : List Value) → Whole xs ys (flat_map formulas_in us) → Whole ys zs (flat_map formulas_in vs) → Whole xs zs (flat_map formulas_in (us ++ vs))
 wholes_then {xs = xs} {zs = zs} us vs a b = subst (Whole xs zs) (sym (flat_map-append formulas_in us vs)) (whole_then a b)

@@ -192,9 +192,9 @@ full_atom {zs = zs} n a = rw (n.is, a.is) (record {
   last = last_behind (n.name ∷ []) a.grouped.last;
   scans = λ s. ap (λ levels. scan levels a.grouped.read) (after_is s n.name n.role) ∙ (let g = a.grouped.groups (named s) in g.scanned ∙ closed_named s g.depth s.level.negated refl);
   quiet = λ s h.
-    let g = a.grouped.groups (named s) in
-    let same = closed_named s g.depth s.level.negated refl in
-    (name_silent s n.name n.role h, subst (λ t. Quiet t a.grouped.read) (sym (after_is s n.name n.role)) (g.quiet (subst (λ (t : Levels). depth_of t.level ≤ 64) (sym same) h)));
+      let g = a.grouped.groups (named s) in
+      let same = closed_named s g.depth s.level.negated refl in
+      (name_silent s n.name n.role h, subst (λ t. Quiet t a.grouped.read) (sym (after_is s n.name n.role)) (g.quiet (subst (λ (t : Levels). depth_of t.level ≤ 64) (sym same) h)));
 })
 
 pub atom_scans : {xs ys : List Lexeme} {vs : List Value} → Has (rule_of Name.Atom) xs ys vs → ScansAtom xs ys (made Name.Atom vs)
