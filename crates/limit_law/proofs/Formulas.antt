@@ -3,28 +3,27 @@ use Rattle.std.proofs.Common.{append_assoc, ◌≡◌, ℕ, ◌+◌, ◌≤◌, 
 use Rattle.std.specs.Prelude.{fold, max}
 use Rattle.grammar.specs.Form.{◌⨾◌}
 use Rattle.grammar.specs.Form.Form.{Tok, Call, Star}
-use Rattle.std.proofs.lemmas.List.{append-nil, append_cancel_right}
-use Rattle.grammar.proofs.Interpret.{Reads, read as read_by}
+use Rattle.std.proofs.lemmas.List.{append-nil}
+use Rattle.grammar.proofs.Interpret.{Reads}
 use Rattle.ap_syntax.specs.declared.preferences.Formula.{Formula as FormulaTree}
 use Rattle.ap_syntax.specs.declared.preferences.Formula.TheVariants as formulas
 use Rattle.ap_grammar.specs.declared.terminals.Terminal.TheVariants as t
 use Rattle.ap_grammar.specs.Lexemes.{Lexeme}
 use Rattle.ap_grammar.specs.Values.{Value, as_formula, collected}
 use Rattle.ap_grammar.specs.Values.Value.{formula, token}
-use Rattle.ap_grammar.specs.Grammar.{Name, conjunction_of, disjunction_of, grammar, made, rule_of}
+use Rattle.ap_grammar.specs.Grammar.{Name, conjunction_of, disjunction_of, made, rule_of}
 use Rattle.ap_lexemes.specs.declared.levels.Level.{Level}
 use Rattle.ap_lexemes.specs.declared.role.Role.{Role}
 use Rattle.ap_lexemes.specs.declared.role.Role.TheVariants.{And, Or}
-use Rattle.ap_lexemes.specs.Limits.{Levels, after, depth_of, joined, member_depth, role_of}
+use Rattle.ap_lexemes.specs.Limits.{Levels, after, conjunction_depth, depth_of, joined, member_depth, role_of}
 use Rattle.limit_law.specs.Depths.{IsFresh, capped, depth, scan}
-use Rattle.limit_law.specs.Stands.{IsFormula}
-use Rattle.limit_law.proofs.Numbers.{capped_in_bounds, deeper_capped, joined_capped, member_in_bounds, right_in_bounds, shallower, within_capped}
+use Rattle.limit_law.proofs.Numbers.{deeper_capped, joined_capped, member_in_bounds, right_in_bounds, shallower, within_capped}
 use Rattle.limit_law.proofs.Trees.{of_atom, of_conjunction, of_disjunction, of_not}
 use Rattle.limit_law.proofs.Quiet.{Quiet, Silent, quiet_then, scan_append, silent_and, silent_is, silent_not, silent_or}
 use Rattle.limit_law.proofs.Last.{Last, last_behind}
 use Rattle.limit_law.proofs.Scanning.{after_is, around, group_tokens, inside, last_close, quiet_group, scan_group, tokens_then}
-use Rattle.limit_law.proofs.Scans.{BehindConjunction, BehindDisjunction, ConjunctionDepth, DisjunctionDepth, MemberDepth, Scans, ScansAtom, ScansFormula, at}
-use Rattle.limit_law.proofs.Terms.{Has, arguments_scans, atom_scans, name_scans, primary_scans, product_scans, sum_scans, term_scans, unary_scans}
+use Rattle.limit_law.proofs.Scans.{BehindConjunction, BehindDisjunction, ConjunctionDepth, DisjunctionDepth, MemberDepth, ScansAtom, ScansFormula, at}
+use Rattle.limit_law.proofs.Terms.{Has}
 
 -- ---- members
 
@@ -121,7 +120,7 @@ atom_alone a = rw a.is (member_alone a.first (atom_part a))
 group_alone : (p c : Lexeme) {xs ys : List Lexeme} {v : Value} → p.terminal ≡ t.Open → ScansFormula DisjunctionDepth xs (c ∷ ys) v → c.terminal ≡ t.Close → ScansFormula MemberDepth (p ∷ xs) ys (made Name.Member (token p ∷ v ∷ token c ∷ []))
 group_alone p c e f g = rw f.is (member_alone p (group_part p c e f g))
 
-member_scans : {xs ys : List Lexeme} {vs : List Value} → Has (rule_of Name.Member) xs ys vs → ScansFormula MemberDepth xs ys (made Name.Member vs)
+pub member_scans : {xs ys : List Lexeme} {vs : List Value} → Has (rule_of Name.Member) xs ys vs → ScansFormula MemberDepth xs ys (made Name.Member vs)
 member_scans (Reads.seq (Reads.left (Reads.tok {t = x} e)) (Reads.left (Reads.call m))) = not_atom x e m
 member_scans (Reads.seq (Reads.left (Reads.tok {t = x} e)) (Reads.right (Reads.seq (Reads.tok {t = p} f) (Reads.seq (Reads.call m) (Reads.tok {t = c} g))))) = not_group x p c e f m g
 member_scans (Reads.seq (Reads.right Reads.empty) (Reads.left (Reads.call m))) = atom_alone m
@@ -196,8 +195,8 @@ members_behind : {xs ys : List Lexeme} {vs : List Value} → Has (Star (Tok t.An
 members_behind (Reads.none {xs = xs}) = no_members xs
 members_behind (Reads.more (Reads.seq (Reads.tok {t = x} e) (Reads.call m)) rest) = more_members x e m (members_behind rest)
 
-conjunction_depth : {xs ys zs : List Lexeme} {v : Value} {vs : List Value} (p : ScansFormula MemberDepth xs ys v) (r : Members ys zs vs) → ConjunctionDepth (p.read ++ r.read) (chain_from (depth p.tree) r.trees)
-conjunction_depth p r = record {
+chain_depths : {xs ys zs : List Lexeme} {v : Value} {vs : List Value} (p : ScansFormula MemberDepth xs ys v) (r : Members ys zs vs) → ConjunctionDepth (p.read ++ r.read) (chain_from (depth p.tree) r.trees)
+chain_depths p r = record {
   behind = λ c d os. let q = p.scans.behind c d 0 os in conjunction_then p.read r.read _ c d os (at c d 0 false 0 os) _ q.1 (r.scans c d 0 (capped (depth p.tree)) (depth p.tree) q.0 os p.positive refl);
   quiet = λ c d os h.
       let q = p.scans.behind c d 0 os in
@@ -215,10 +214,10 @@ conjunction_made {zs = zs} p r = rw (p.is, r.are) (record {
   tokens = tokens_then p.read r.read zs p.tokens r.tokens;
   last = r.last p.read p.last;
   positive = rw (of_conjunction p.tree r.trees) (chain_positive (depth p.tree) r.trees p.positive);
-  scans = subst (ConjunctionDepth (p.read ++ r.read)) (sym (of_conjunction p.tree r.trees)) (conjunction_depth p r);
+  scans = subst (ConjunctionDepth (p.read ++ r.read)) (sym (of_conjunction p.tree r.trees)) (chain_depths p r);
 })
 
-conjunction_scans : {xs ys : List Lexeme} {vs : List Value} → Has (rule_of Name.Conjunction) xs ys vs → ScansFormula ConjunctionDepth xs ys (made Name.Conjunction vs)
+pub conjunction_scans : {xs ys : List Lexeme} {vs : List Value} → Has (rule_of Name.Conjunction) xs ys vs → ScansFormula ConjunctionDepth xs ys (made Name.Conjunction vs)
 conjunction_scans (Reads.seq (Reads.call m) rest) = conjunction_made m (members_behind rest)
 
 -- ---- disjunctions
@@ -298,27 +297,10 @@ disjunction_made {zs = zs} p r = rw (p.is, r.are) (record {
   scans = subst (DisjunctionDepth (p.read ++ r.read)) (sym (of_disjunction p.tree r.trees)) (disjunction_depth p r);
 })
 
-formula_scans : {xs ys : List Lexeme} {vs : List Value} → Has (rule_of Name.Formula) xs ys vs → ScansFormula DisjunctionDepth xs ys (made Name.Formula vs)
+pub formula_scans : {xs ys : List Lexeme} {vs : List Value} → Has (rule_of Name.Formula) xs ys vs → ScansFormula DisjunctionDepth xs ys (made Name.Formula vs)
 formula_scans (Reads.seq (Reads.call m) rest) = disjunction_made m (conjunctions_behind rest)
 
--- ---- all rules
-
-rule_scans : (n : Name) (xs ys : List Lexeme) (vs : List Value) → Has (rule_of n) xs ys vs → Scans n xs ys (made n vs)
-rule_scans Name.Ident xs ys vs d = name_scans d
-rule_scans Name.Arguments xs ys vs d = arguments_scans d
-rule_scans Name.Atom xs ys vs d = atom_scans d
-rule_scans Name.Term xs ys vs d = term_scans d
-rule_scans Name.Sum xs ys vs d = sum_scans d
-rule_scans Name.Product xs ys vs d = product_scans d
-rule_scans Name.Unary xs ys vs d = unary_scans d
-rule_scans Name.Primary xs ys vs d = primary_scans d
-rule_scans Name.Formula xs ys vs d = formula_scans d
-rule_scans Name.Conjunction xs ys vs d = conjunction_scans d
-rule_scans Name.Member xs ys vs d = member_scans d
-rule_scans n xs ys vs d = tt
-
-same_tree : (first other : Lexeme) (f g : FormulaTree) → formula first f ≡ formula other g → g ≡ f
-same_tree first other f g e = cc
+-- ---- a formula at a level
 
 -- the levels behind a formula, and what stands at its tokens
 pub record Behind (s : Levels) (read : List Lexeme) (f : FormulaTree) : Type 0 where
@@ -346,8 +328,13 @@ behind_is s h p =
       quiet = λ i. subst (λ t. Quiet t p.read) (sym (fresh_is s h)) (p.scans.quiet s.level.commas s.outer i);
     }
 
-pub behind : {s : Levels} {read rest : List Lexeme} {f : FormulaTree} → IsFormula s read rest f → Behind s read f
-behind {s = s} {read = front} {rest = rest} {f = f} i = by_reading (read_by rule_scans i.derives)
-  where
-    by_reading : Has (Call Name.Formula) (front ++ rest) rest (formula i.first f ∷ []) → Behind s front f
-    by_reading (Reads.call p) = subst (λ ts. Behind s ts f) (sym (append_cancel_right front p.read rest p.tokens)) (subst (Behind s p.read) (same_tree i.first p.first f p.tree p.is) (behind_is s i.fresh p))
+-- ---- a conjunction at a level
+
+conjunction_at : (c d e m : ℕ) (n : Bool) (os : List Level) → e ≡ 0 → n ≡ false → m ≡ 0 → at c d e n m os ≡ at c d 0 false 0 os
+conjunction_at c d e m n os f g h = rw (f, g, h) refl
+
+pub conjunction_is : (s : Levels) {xs ys : List Lexeme} {v : Value} → s.level.conjunction ≡ 0 → s.level.negated ≡ false → s.level.member ≡ 0 → (p : ScansFormula ConjunctionDepth xs ys v) → conjunction_depth (scan s p.read).level ≡ capped (depth p.tree)
+conjunction_is s f g h p =
+    let b = p.scans.behind s.level.commas s.level.disjunction s.outer in
+    let e = ap (λ t. scan t p.read) (conjunction_at s.level.commas s.level.disjunction s.level.conjunction s.level.member s.level.negated s.outer f g h) ∙ b.scanned in
+    ap (λ (t : Levels). conjunction_depth t.level) e ∙ b.total

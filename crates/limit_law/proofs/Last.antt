@@ -1,7 +1,6 @@
 -- The last token of a member: a name or a `)`.
 use Rattle.std.proofs.Common.{◌≡◌, ◌≢◌, Bool, true, false, List, [], ◌∷◌, ◌++◌, refl, sym, ap, subst, ◌∙◌, append_assoc}
 use Rattle.std.specs.Prelude.{Some}
-use Rattle.std.proofs.lemmas.List.{append-nil}
 use Rattle.ap_grammar.specs.Lexemes.{Lexeme}
 use Rattle.ap_lexemes.specs.declared.limit.Limit.TheVariants.{Formula}
 use Rattle.ap_lexemes.specs.declared.role.Role.{Role}

@@ -8,3 +8,7 @@ pub mod Tells
 pub mod Scans
 pub mod Terms
 pub mod Formulas
+pub mod Preferences
+pub mod Statements
+pub mod Rules
+pub mod FirstLimits

@@ -1,5 +1,5 @@
 -- The limit where a formula ends.
-use Rattle.std.proofs.Common.{◌≡◌, ◌≢◌, ℕ, ◌<◌, ◌≤◌, Bool, true, false, refl, sym, ap, ◌∙◌, arith, if◌then◌else◌}
+use Rattle.std.proofs.Common.{◌≡◌, ◌≢◌, ℕ, ◌<◌, ◌≤◌, Bool, true, false, refl, sym, ◌∙◌, arith, if◌then◌else◌}
 use Rattle.std.specs.Prelude.{Option, None, Some, not, ◌&&◌, ◌||◌}
 use Rattle.std.proofs.lemmas.Bool.Decides.{nat_tests}
 use Rattle.ap_lexemes.specs.declared.levels.Level.{Level}
@@ -39,6 +39,12 @@ no_limit part whole false e f = rw (e, f) refl
 
 pub limit_behind : (l : Level) (next : Role) (k : ℕ) → depth_of l ≡ capped k → next ≢ And → 64 < k → formula_limit l next ≡ Some Formula
 limit_behind l next k e n h = deep_limit (is_too_deep (conjunction_depth l)) (is_too_deep (depth_of l)) (is_and next) (no_and next n) (too_deep (depth_of l) k e h)
+
+deep_part : (part whole next : Bool) → part ≡ true → limit_by part next whole ≡ Some Formula
+deep_part part whole next e = rw e refl
+
+pub limit_of_part : (l : Level) (next : Role) (k : ℕ) → conjunction_depth l ≡ capped k → 64 < k → formula_limit l next ≡ Some Formula
+limit_of_part l next k e h = deep_part (is_too_deep (conjunction_depth l)) (is_too_deep (depth_of l)) (is_and next) (too_deep (conjunction_depth l) k e h)
 
 pub none_at : (l : Level) (next : Role) → depth_of l ≤ 64 → formula_limit l next ≡ None
 none_at l next h = no_limit (is_too_deep (conjunction_depth l)) (is_too_deep (depth_of l)) (is_and next) (part_in_bounds l.disjunction (conjunction_depth l) h) (in_bounds (depth_of l) h)

@@ -1,13 +1,11 @@
 -- Tokens at which no limit of formulas stands, whatever follows them.
-use Rattle.std.proofs.Common.{◌≡◌, ◌≢◌, ℕ, ◌≤◌, Bool, true, false, List, [], ◌∷◌, ◌++◌, refl, sym, ap, subst, ◌∙◌, arith, if◌then◌else◌}
-use Rattle.std.specs.Prelude.{Option, None, Some, nat_le, length}
+use Rattle.std.proofs.Common.{◌≡◌, ◌≢◌, ◌≤◌, Bool, true, false, List, [], ◌∷◌, ◌++◌, refl, sym, subst, if◌then◌else◌}
+use Rattle.std.specs.Prelude.{None, Some, nat_le, length}
 use Rattle.ap_grammar.specs.Lexemes.{Lexeme}
-use Rattle.ap_lexemes.specs.declared.levels.Level.{Level}
-use Rattle.ap_lexemes.specs.declared.limit.Limit.{Limit}
 use Rattle.ap_lexemes.specs.declared.limit.Limit.TheVariants.{Arity, Formula, Nesting}
 use Rattle.ap_lexemes.specs.declared.role.Role.{Role}
 use Rattle.ap_lexemes.specs.declared.role.Role.TheVariants.{Name, Not, And, Or, Open, Close, Comma, Dot, Other}
-use Rattle.ap_lexemes.specs.Limits.{Levels, after, comma_limit, depth_of, is_full, limit_at, next_role, open_limit, role_of}
+use Rattle.ap_lexemes.specs.Limits.{Levels, after, depth_of, is_full, limit_at, next_role, role_of}
 use Rattle.limit_law.specs.Depths.{scan}
 use Rattle.limit_law.specs.Stands.{Stands}
 use Rattle.limit_law.proofs.Limits.{no_atom_at, no_formula_at}

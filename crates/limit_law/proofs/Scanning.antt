@@ -1,14 +1,12 @@
 -- The scan of tokens in parentheses, and of those that keep the levels around them.
-use Rattle.std.proofs.Common.{◌≡◌, ◌≢◌, ℕ, zero, suc, ◌≤◌, Bool, true, false, List, [], ◌∷◌, ◌++◌, refl, sym, ap, ◌∙◌, append_assoc, arith, subst}
-use Rattle.std.specs.Prelude.{◌==◌, Some, if◌then◌else◌}
+use Rattle.std.proofs.Common.{◌≡◌, ℕ, zero, suc, ◌≤◌, Bool, true, false, List, [], ◌∷◌, ◌++◌, refl, sym, ap, ◌∙◌, append_assoc, arith, subst}
+use Rattle.std.specs.Prelude.{◌==◌, if◌then◌else◌}
 use Rattle.ap_grammar.specs.Lexemes.{Lexeme}
 use Rattle.ap_lexemes.specs.declared.levels.Level.{Level}
-use Rattle.ap_lexemes.specs.declared.limit.Limit.TheVariants.{Formula}
 use Rattle.ap_lexemes.specs.declared.role.Role.{Role}
 use Rattle.ap_lexemes.specs.declared.role.Role.TheVariants.{Name, Not, And, Or, Open, Close, Comma, Dot, Other}
-use Rattle.ap_lexemes.specs.Limits.{Levels, after, closed, closes, depth_of, ended, formula_limit, limit_at, member_depth, role_of, with_member}
+use Rattle.ap_lexemes.specs.Limits.{Levels, after, closed, closes, depth_of, ended, member_depth, role_of, with_member}
 use Rattle.limit_law.specs.Depths.{scan}
-use Rattle.limit_law.proofs.Limits.{no_formula_at}
 use Rattle.limit_law.proofs.Last.{Last, last_behind, last_one}
 use Rattle.limit_law.proofs.Quiet.{Quiet, Silent, quiet_append, scan_append, silent}
 

@@ -10,13 +10,13 @@ use Rattle.ap_grammar.specs.Lexemes.{Lexeme}
 use Rattle.ap_lexemes.specs.declared.levels.Level.{Level}
 use Rattle.ap_lexemes.specs.declared.limit.Limit.TheVariants as limits
 use Rattle.ap_lexemes.specs.declared.role.Role.{Role}
-use Rattle.ap_lexemes.specs.declared.role.Role.TheVariants.{Name, Not, And, Or, Open, Close, Comma, Dot, Other}
+use Rattle.ap_lexemes.specs.declared.role.Role.TheVariants.{And, Open, Dot, Other}
 use Rattle.ap_lexemes.specs.Limits.{Levels, after, ended, limit_at, member_depth, next_role, no_levels, role_of}
 use Rattle.limit_law.specs.Depths.{IsFresh, scan}
 use Rattle.limit_law.specs.Programs.{is_in_bounds}
 use Rattle.limit_law.specs.Stands.{Stands}
 use Rattle.limit_law.proofs.Quiet.{Quiet, Silent, quiet_then, scan_append, silent, silent_is}
-use Rattle.limit_law.proofs.Scanning.{Bare, Keeps, Kept, after_is, bare_ended, kept_none, kept_then, tokens_then}
+use Rattle.limit_law.proofs.Scanning.{Bare, Keeps, Kept, after_is, tokens_then}
 
 abbrev pub all_in_bounds : List Formula → Bool
 all_in_bounds fs = list_all is_in_bounds fs

@@ -1,5 +1,5 @@
 -- Formulas among the tokens of a text, and where a limit of formulas stands.
-use Rattle.std.specs.Prelude.{◌≡◌, List, [], ◌∷◌, ◌++◌, Some}
+use Rattle.std.specs.Prelude.{◌≡◌, false, List, [], ◌∷◌, ◌++◌, Some}
 use Rattle.grammar.specs.Form.{Derives}
 use Rattle.grammar.specs.Form.Form.{Call}
 use Rattle.ap_grammar.specs.Grammar.{Name, grammar}
@@ -15,6 +15,15 @@ pub record IsFormula (s : Levels) (read rest : List Lexeme) (f : Formula) : Type
   pub fresh : IsFresh s.level
   pub first : Lexeme
   pub derives : Derives grammar (Call Name.Formula) (read ++ rest) rest (formula first f ∷ [])
+
+-- The tokens, behind which there are others, are a conjunction with this tree, the first one of its level or one behind a `|`.
+-- What stands before a `&` is a conjunction too.
+pub record IsConjunction (s : Levels) (read rest : List Lexeme) (f : Formula) : Type 0 where
+  pub conjunction : s.level.conjunction ≡ 0
+  pub negated : s.level.negated ≡ false
+  pub member : s.level.member ≡ 0
+  pub first : Lexeme
+  pub derives : Derives grammar (Call Name.Conjunction) (read ++ rest) rest (formula first f ∷ [])
 
 -- a limit of formulas stands at one of these tokens, behind which there are others
 pub record Stands (s : Levels) (read rest : List Lexeme) : Type 0 where

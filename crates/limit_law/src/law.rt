@@ -1,13 +1,20 @@
 // The laws.
-ghost use Rattle.std.specs.Prelude.{◌≡◌, ◌≢◌, ◌<◌, ◌≤◌, List, None, Some};
+ghost use Rattle.std.specs.Prelude.{◌≡◌, ◌≢◌, ◌<◌, ◌≤◌, Bool, IfSome, List, None, Ok, Some, [], false, true, ℕ};
+ghost use Rattle.std.specs.List.{list_all};
+ghost use Rattle.grammar.specs.Fault.{IsText};
+ghost use Rattle.ap_grammar.specs.Grammar.{Name, grammar};
 ghost use Rattle.ap_grammar.specs.Lexemes.{Lexeme};
-ghost use Rattle.ap_lexemes.specs.Limits.{Levels, depth_of, formula_limit, next_role};
+ghost use Rattle.ap_grammar.specs.Values.Value.{program};
+ghost use Rattle.ap_lexemes.specs.Limits.{Levels, depth_of, first_limit, formula_limit, next_role, no_levels};
+ghost use Rattle.ap_lexemes.specs.Texts.{IsOutcome};
 ghost use Rattle.ap_lexemes.specs.declared.limit.Limit.TheVariants as limits;
 ghost use Rattle.ap_lexemes.specs.declared.role.Role.{Role};
 ghost use Rattle.ap_lexemes.specs.declared.role.Role.TheVariants as roles;
 ghost use Rattle.ap_syntax.specs.declared.preferences.Formula.{Formula};
+ghost use Rattle.ap_syntax.specs.declared.programs.Statement.{Statement};
 ghost use Rattle.limit_law.specs.Depths.{capped, depth, scan};
-ghost use Rattle.limit_law.specs.Stands.{IsFormula, Stands};
+ghost use Rattle.limit_law.specs.Programs.{formulas_of, is_in_bounds};
+ghost use Rattle.limit_law.specs.Stands.{IsConjunction, IsFormula, Stands};
 
 /// The scan of a formula's tokens comes to the depth of the formula's tree, up to 65.
 pub fn depth_of_a_formula()
@@ -17,15 +24,31 @@ pub fn depth_of_a_formula()
     ensures commas { (s : Levels) (read rest : List Lexeme) (f : Formula) → IsFormula s read rest f → (scan s read).level.commas ≡ s.level.commas }
 {}
 
-/// Where a formula ends, its limit stands exactly if the depth of its tree is more than 64.
+/// Where a formula ends and no `&` follows, its limit stands exactly if the depth of its tree is more than 64.
 pub fn limit_of_a_formula()
     ensures deep { (s : Levels) (read rest : List Lexeme) (f : Formula) (next : Role) → IsFormula s read rest f → next ≢ roles.And → 64 < depth f → formula_limit (scan s read).level next ≡ Some limits.Formula }
     ensures within { (s : Levels) (read rest : List Lexeme) (f : Formula) (next : Role) → IsFormula s read rest f → depth f ≤ 64 → formula_limit (scan s read).level next ≡ None }
+    // It stands behind each member of a conjunction as well, whatever follows, if what stands up to there is deeper than 64.
+    ensures part { (s : Levels) (read rest : List Lexeme) (f : Formula) (next : Role) → IsConjunction s read rest f → 64 < depth f → formula_limit (scan s read).level next ≡ Some limits.Formula }
 {}
 
 /// At the tokens of a formula, its parts among them, a limit of formulas stands exactly if the depth of its tree is more than 64.
 pub fn limit_in_a_formula()
-    // A `&` or a `(` behind it would go on with its last member.
+    // Behind a formula stands no `&`, which would go on with it, and no `(`, which would go on with its last atom.
     ensures deep { (s : Levels) (read rest : List Lexeme) (f : Formula) → IsFormula s read rest f → next_role rest ≢ roles.And → next_role rest ≢ roles.Open → 64 < depth f → Stands s read rest }
     ensures within { (s : Levels) (read rest : List Lexeme) (f : Formula) → IsFormula s read rest f → depth f ≤ 64 → Stands s read rest → ⊥ }
+{}
+
+/// At the tokens of a text a limit of formulas stands exactly if one of the text's formulas is deeper than 64.
+pub fn limit_in_a_text()
+    ensures deep { (whole of_type : Bool) (xs : List Lexeme) (statements : List Statement) → IsText grammar (Name.Text whole of_type) xs (program statements) → list_all is_in_bounds (formulas_of statements) ≡ false → Stands no_levels xs [] }
+    ensures within { (whole of_type : Bool) (xs : List Lexeme) (statements : List Statement) → IsText grammar (Name.Text whole of_type) xs (program statements) → list_all is_in_bounds (formulas_of statements) ≡ true → Stands no_levels xs [] → ⊥ }
+{}
+
+/// The first limit of a text is one of formulas only if one of its formulas is deeper than 64, and there is a first limit if one is.
+pub fn limit_of_a_text()
+    ensures deep { (whole of_type : Bool) (xs : List Lexeme) (statements : List Statement) → IsText grammar (Name.Text whole of_type) xs (program statements) → first_limit xs ≡ None → list_all is_in_bounds (formulas_of statements) ≡ true }
+    ensures within { (whole of_type : Bool) (xs : List Lexeme) (statements : List Statement) → IsText grammar (Name.Text whole of_type) xs (program statements) → list_all is_in_bounds (formulas_of statements) ≡ true → IfSome (first_limit xs) (λ l. l.which ≢ limits.Formula) }
+    // So no formula of a program that a text comes to is deeper.
+    ensures accepted { (whole of_type : Bool) (xs : List Lexeme) (end : ℕ) (is_cut : Bool) (statements : List Statement) → IsOutcome (Name.Text whole of_type) xs end is_cut (Ok (program statements)) → list_all is_in_bounds (formulas_of statements) ≡ true }
 {}

@@ -3,4 +3,6 @@
 
 mod law;
 
-pub use law::{depth_of_a_formula, limit_in_a_formula, limit_of_a_formula};
+pub use law::{
+    depth_of_a_formula, limit_in_a_formula, limit_in_a_text, limit_of_a_formula, limit_of_a_text,
+};

@@ -1,4 +1,4 @@
-use Rattle.limit_law.proofs.Formulas.{behind}
+use Rattle.limit_law.proofs.Rules.{behind}
 use Rattle.limit_law.proofs.law.depth_of_a_formula.Goals as goal
 
 pub returns-clause-depth : goal.returns-clause-depth

@@ -1,6 +1,6 @@
 use Rattle.ap_lexemes.specs.Limits.{next_role}
 use Rattle.limit_law.specs.Depths.{depth, scan}
-use Rattle.limit_law.proofs.Formulas.{behind}
+use Rattle.limit_law.proofs.Rules.{behind}
 use Rattle.limit_law.proofs.Last.{stands_last}
 use Rattle.limit_law.proofs.Limits.{limit_behind}
 use Rattle.limit_law.proofs.Quiet.{none_stands}
