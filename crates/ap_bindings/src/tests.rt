@@ -59,8 +59,9 @@ fn condition(alloc: Global, texts: &[&str]) -> Result<Items<Literal>, AllocError
 }
 
 fn compare(alloc: Global, left: &str, rel: Rel, right: &str) -> Result<BodyItem, AllocError> {
-    let left = term(alloc, left)?;
-    Ok(BodyItem::Plain(Literal::Compare(left, rel, term(alloc, right)?)))
+    let left = Boxed::new(alloc, term(alloc, left)?)?;
+    let right = Boxed::new(alloc, term(alloc, right)?)?;
+    Ok(BodyItem::Plain(Literal::Compare(left, rel, right)))
 }
 
 fn choice(alloc: Global, texts: &[&str], within: &[&str]) -> Result<HeadForm, AllocError> {
@@ -87,13 +88,13 @@ fn count(
         terms: terms(alloc, texts)?,
         condition: condition(alloc, within)?,
     })?;
-    let left = Some(Guard {
+    let guard = Guard {
         rel: Rel::Eq,
         term: term(alloc, left)?,
-    });
+    };
     Ok(BodyItem::Agg {
         negated: false,
-        left,
+        left: Some(Boxed::new(alloc, guard)?),
         function: Function::Count,
         elements,
         right: None,
@@ -117,7 +118,7 @@ fn add(alloc: Global, rule: &mut Rule, part: Part<'_>) -> Result<(), AllocError>
         Part::All(texts, within) => {
             BodyItem::All {
                 at: 0,
-                literal: Literal::Pos(atom(alloc, texts)?),
+                literal: Boxed::new(alloc, Literal::Pos(atom(alloc, texts)?))?,
                 condition: condition(alloc, within)?,
             }
         }

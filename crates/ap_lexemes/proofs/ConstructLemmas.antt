@@ -1,5 +1,5 @@
 -- Constructs: a look-up in a table of spellings, row by row, and what stands behind some tokens.
-use Rattle.std.proofs.Common.{◌≡◌, ℕ, ◌+◌, ◌<◌, ◌≤◌, List, length, drop, get_or, map, true, false, refl, ◌∙◌, arith}
+use Rattle.std.proofs.Common.{◌≡◌, ℕ, ◌+◌, ◌<◌, ◌≤◌, List, length, drop, get_or, true, false, refl, ◌∙◌, arith}
 use Rattle.std.proofs.lemmas.List.{at_drop_more, at_drop_all}
 use Rattle.std.specs.List.{fold}
 use Rattle.std.specs.Str.{bytes_eq}
@@ -9,9 +9,9 @@ use Rattle.ap_grammar.specs.declared.terminals.Terminal.{Terminal}
 use Rattle.ap_grammar.specs.declared.terminals.Terminal.TheVariants as t
 use Rattle.ap_lexemes.specs.declared.construct.Construct.{Construct}
 use Rattle.ap_lexemes.specs.declared.context.Context.{Context}
-use Rattle.ap_lexemes.specs.declared.lexeme.Lexeme.{Lexeme as Held}
+use Rattle.ap_lex.specs.declared.token.Token.{Token}
 use Rattle.ap_lexemes.specs.Constructs.{behind, spelled_in}
-use Rattle.ap_lexemes.specs.Lexemes.{lexeme_of}
+use Rattle.ap_lexemes.specs.Lexemes.{lexeme_at, lexemes_of}
 
 module _ (rows : List (Bor (List ℕ) × Construct)) (bytes : List ℕ) (i : ℕ) where
   pub spelled-here : (d : Bor (List ℕ) × Construct) → i < length rows → bytes_eq (get_or rows i d).0.now bytes ≡ true → spelled_in (drop i rows) bytes ≡ Some (get_or rows i d).1
@@ -32,9 +32,9 @@ one_more s t.Preference = omega arith
 one_more s t.Dot = omega arith
 one_more s other = omega arith
 
-module _ (xs : List Held) (s : Context) (i : ℕ) where
-  pub context-here : (d : Held) → i < length xs → fold (λ s x. behind s x.terminal) s (map lexeme_of (drop i xs)) ≡ fold (λ s x. behind s x.terminal) (behind s (get_or xs i d).terminal) (map lexeme_of (drop (i + 1) xs))
-  context-here d lt = at_drop_more (λ rs. fold (λ s x. behind s x.terminal) s (map lexeme_of rs)) xs i d lt
+module _ (text : List ℕ) (file : ℕ) (xs : List Token) (s : Context) (i : ℕ) where
+  pub context-here : (d : Token) → i < length xs → fold (λ s x. behind s x.terminal) s (lexemes_of text file (drop i xs)) ≡ fold (λ s x. behind s x.terminal) (behind s (lexeme_at text file (get_or xs i d)).terminal) (lexemes_of text file (drop (i + 1) xs))
+  context-here d lt = at_drop_more (λ rs. fold (λ s x. behind s x.terminal) s (lexemes_of text file rs)) xs i d lt
 
-  pub context-end : length xs ≤ i → fold (λ s x. behind s x.terminal) s (map lexeme_of (drop i xs)) ≡ s
-  context-end le = at_drop_all (λ rs. fold (λ s x. behind s x.terminal) s (map lexeme_of rs)) xs i le
+  pub context-end : length xs ≤ i → fold (λ s x. behind s x.terminal) s (lexemes_of text file (drop i xs)) ≡ s
+  context-end le = at_drop_all (λ rs. fold (λ s x. behind s x.terminal) s (lexemes_of text file rs)) xs i le

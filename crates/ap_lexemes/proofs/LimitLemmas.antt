@@ -1,21 +1,44 @@
 -- The scan for the first limit, token by token.
-use Rattle.std.proofs.Common.{◌≡◌, ℕ, ⊎_elim, suc, ◌+◌, ◌<◌, ◌≤◌, List, [], ◌∷◌, ◌++◌, length, drop, get_or, map, refl, sym, ap, subst, ◌∙◌, arith}
+use Rattle.std.proofs.Common.{◌≡◌, ℕ, ⊎_elim, suc, ◌+◌, ◌<◌, ◌≤◌, List, [], ◌∷◌, ◌++◌, length, drop, refl, sym, ap, subst, ◌∙◌, arith}
 use Rattle.std.proofs.lemmas.List.{append-nil, at_drop_more, at_drop_all}
 use Rattle.std.proofs.lemmas.Bool.{cases_lt}
 use Rattle.std.specs.Prelude.{Option, None, Some, IfSome}
 use Rattle.ap_grammar.specs.Lexemes.{Lexeme}
-use Rattle.ap_lexemes.specs.declared.lexeme.Lexeme.{Lexeme as Held}
+use Rattle.ap_lex.specs.declared.token.Token.{Token}
 use Rattle.ap_lexemes.specs.declared.limit.Limit.{Limit}
 use Rattle.ap_lexemes.specs.declared.limit.LimitAt.{LimitAt}
-use Rattle.ap_lexemes.specs.Lexemes.{lexeme_of}
+use Rattle.ap_lexemes.specs.declared.role.Role.{Role}
+use Rattle.ap_lexemes.specs.Lexemes.{lexemes_of}
+use Rattle.ap_lexemes.specs.Scanning.{Goes}
 use Rattle.ap_lexemes.specs.Limits.{Levels, after, first_limit, limit_at, limit_from, limit_or, next_role, no_levels, role_of}
 
-module _ (xs : List Held) (s : Levels) (i : ℕ) where
-  pub limit-here : (d : Held) → i < length xs → limit_from s i (map lexeme_of (drop i xs)) ≡ limit_or (limit_at s (role_of (get_or xs i d).terminal) (next_role (map lexeme_of (drop (i + 1) xs)))) i (limit_from (after s (role_of (get_or xs i d).terminal)) (i + 1) (map lexeme_of (drop (i + 1) xs)))
-  limit-here d lt = at_drop_more (λ rs. limit_from s i (map lexeme_of rs)) xs i d lt
+step : (s : Levels) (i : ℕ) {front rest : List Lexeme} {x : Lexeme} → front ≡ x ∷ rest → limit_from s i front ≡ limit_or (limit_at s (next_role front) (next_role rest)) i (limit_from (after s (next_role front)) (i + 1) rest)
+step s i e = rw e refl
 
-  pub limit-nowhere : length xs ≤ i → limit_from s i (map lexeme_of (drop i xs)) ≡ None
-  limit-nowhere le = at_drop_all (λ rs. limit_from s i (map lexeme_of rs)) xs i le
+gone : (o : Option Limit) {old new : Levels} → o ≡ None → Goes old new o → new ≡ old
+gone None e g = g
+gone (Some l) e g = cc
+
+module _ (text : List ℕ) (file : ℕ) where
+  here : (xs : List Token) (s : Levels) (i : ℕ) → i < length xs
+      → limit_from s i (lexemes_of text file (drop i xs)) ≡ limit_or (limit_at s (next_role (lexemes_of text file (drop i xs))) (next_role (lexemes_of text file (drop (i + 1) xs)))) i (limit_from (after s (next_role (lexemes_of text file (drop i xs)))) (i + 1) (lexemes_of text file (drop (i + 1) xs)))
+  here [] s i lt = absurd (omega (arith, lt))
+  here (x ∷ xs) s i lt = step s i (ap (lexemes_of text file) (at_drop_more (λ rs. rs) (x ∷ xs) i x lt))
+
+  module _ (xs : List Token) (s : Levels) (i : ℕ) {role next : Role} (lt : i < length xs) (at : role ≡ next_role (lexemes_of text file (drop i xs))) (behind : next ≡ next_role (lexemes_of text file (drop (i + 1) xs))) where
+    by_roles : limit_from s i (lexemes_of text file (drop i xs)) ≡ limit_or (limit_at s role next) i (limit_from (after s role) (i + 1) (lexemes_of text file (drop (i + 1) xs)))
+    by_roles = rw (at, behind) (here xs s i lt)
+
+    -- the limit stands at the token
+    pub limit_here : {o : Option Limit} {l : Limit} → o ≡ limit_at s role next → o ≡ Some l → limit_from s i (lexemes_of text file (drop i xs)) ≡ Some (record { which = l; index = i })
+    limit_here e is = by_roles ∙ ap (λ o. limit_or o i (limit_from (after s role) (i + 1) (lexemes_of text file (drop (i + 1) xs)))) (sym e ∙ is)
+
+    -- none does
+    pub limit_later : (o : Option Limit) (new : Levels) → o ≡ limit_at s role next → o ≡ None → Goes (after s role) new o → limit_from s i (lexemes_of text file (drop i xs)) ≡ limit_from new (i + 1) (lexemes_of text file (drop (i + 1) xs))
+    limit_later o new e is goes = rw (gone o is goes) (by_roles ∙ ap (λ o. limit_or o i (limit_from (after s role) (i + 1) (lexemes_of text file (drop (i + 1) xs)))) (sym e ∙ is))
+
+  pub limit-nowhere : (xs : List Token) (s : Levels) (i : ℕ) → length xs ≤ i → limit_from s i (lexemes_of text file (drop i xs)) ≡ None
+  limit-nowhere xs s i le = at_drop_all (λ rs. limit_from s i (lexemes_of text file rs)) xs i le
 
 -- ---- what a limit hangs on
 

@@ -1,17 +1,16 @@
 -- What a text comes to, by where its reading stops.
-use Rattle.std.proofs.Common.{◌≡◌, ℕ, ◌+◌, ◌<◌, ◌≤◌, Bool, true, false, List, [], ◌∷◌, ◌++◌, get_or, length, map, take, drop, None, Some, Err, refl, sym, ap, subst, ◌∙◌, append_assoc, length-append, arith}
-use Rattle.std.specs.Prelude.{IfSome, Option}
-use Rattle.std.proofs.lemmas.List.{append-nil, at_drop_more, drop-map, length-take, take-append-drop, take-map}
+use Rattle.std.proofs.Common.{◌≡◌, ℕ, zero, suc, ◌+◌, ◌<◌, ◌≤◌, Bool, true, false, List, [], ◌∷◌, ◌++◌, length, take, drop, None, Some, Err, refl, sym, ap, subst, ◌∙◌, append_assoc, length-append, arith}
+use Rattle.std.specs.Prelude.{IfSome, Option, slice_get}
+use Rattle.std.proofs.lemmas.List.{append-nil, at_drop_more, length-take, take-append-drop}
+use Rattle.std.proofs.lemmas.Option.{get_or_from_slice_get, slice_get_within}
 use Rattle.grammar.specs.Fault.{IsText, IsFault}
 use Rattle.ap_grammar.specs.Grammar.{Name, grammar}
 use Rattle.ap_grammar.specs.Lexemes.{Lexeme}
 use Rattle.ap_grammar.specs.Values.{Value}
-use Rattle.ap_lexemes.specs.declared.lexeme.Lexeme.{Lexeme as Held}
 use Rattle.ap_lexemes.specs.declared.limit.LimitAt.{LimitAt}
 use Rattle.ap_lexemes.specs.Constructs.{construct_of}
-use Rattle.ap_lexemes.specs.Lexemes.{lexeme_of}
 use Rattle.ap_lexemes.specs.Limits.{first_limit}
-use Rattle.ap_lexemes.specs.Stops.{finished, stopped, up_to}
+use Rattle.ap_lexemes.specs.Stops.{finished, last_fault, stopped, up_to}
 use Rattle.ap_lexemes.specs.Texts.{IsOutcome, fault_of, in_type}
 
 -- a front of a text of the rule, by its value
@@ -40,16 +39,20 @@ ends_in n xs end true (Some l) v is d = IsOutcome.limit is (text_begins d)
 pub outcome_of_end : (n : Name) (xs : List Lexeme) (end : ℕ) (is_cut : Bool) (v : Value) → IsText grammar n (up_to (first_limit xs) xs) v → IsOutcome n xs end is_cut (finished (first_limit xs) xs end is_cut v)
 outcome_of_end n xs end is_cut v d = ends_in n xs end is_cut (first_limit xs) v refl d
 
--- the fault at a token of the code
-module _ (of_type : Bool) (limit : Option LimitAt) (xs : List Lexeme) (end read : ℕ) (tokens : List Held) where
-  at_token : (d : Held) → read < length tokens → stopped of_type limit xs end (map lexeme_of (take read tokens)) (map lexeme_of (drop read tokens)) ≡ fault_of (construct_of of_type (map lexeme_of (take read tokens)) (lexeme_of (get_or tokens read d))) (get_or tokens read d).at
-  at_token d lt = at_drop_more (λ rs. stopped of_type limit xs end (map lexeme_of (take read tokens)) (map lexeme_of rs)) tokens read d lt
+-- the token of a number, and all from it on
+from_got : (xs : List Lexeme) (k : ℕ) (x : Lexeme) → Some x ≡ slice_get xs k → drop k xs ≡ x ∷ drop (k + 1) xs
+from_got xs k x e = at_drop_more (λ rs. rs) xs k x (slice_get_within xs k x (sym e)) ∙ ap (λ y. y ∷ drop (k + 1) xs) (get_or_from_slice_get xs k x x (sym e))
 
-  at_front : (d : Held) → read < length tokens → stopped of_type limit xs end (take read (map lexeme_of tokens)) (drop read (map lexeme_of tokens)) ≡ fault_of (construct_of of_type (map lexeme_of (take read tokens)) (lexeme_of (get_or tokens read d))) (get_or tokens read d).at
-  at_front d lt = rw (take-map lexeme_of read tokens, drop-map lexeme_of read tokens) (at_token d lt)
+from_none : (xs : List Lexeme) (k : ℕ) → None ≡ slice_get xs k → drop k xs ≡ []
+from_none [] zero e = refl
+from_none [] (suc k) e = refl
+from_none (y ∷ ys) zero e = cc
+from_none (y ∷ ys) (suc k) e = from_none ys k e
 
-  pub stopped-at : (x : Held) (front : List Lexeme) → read < length tokens → x ≡ get_or tokens read x → map lexeme_of tokens ≡ front
-      → fault_of (construct_of of_type (map lexeme_of (take read tokens)) (lexeme_of x)) x.at ≡ stopped of_type limit xs end (take read front) (drop read front)
-  stopped-at x front lt is e =
-      subst (λ front. fault_of (construct_of of_type (map lexeme_of (take read tokens)) (lexeme_of x)) x.at ≡ stopped of_type limit xs end (take read front) (drop read front)) e
-      (ap (λ (y : Held). fault_of (construct_of of_type (map lexeme_of (take read tokens)) (lexeme_of y)) y.at) is ∙ sym (at_front x lt))
+-- the fault where some tokens were read, by the next one
+module _ (of_type : Bool) (limit : Option LimitAt) (xs : List Lexeme) (end read : ℕ) {held front : List Lexeme} where
+  pub stopped-at : (x : Lexeme) → held ≡ front → Some x ≡ slice_get held read → fault_of (construct_of of_type (take read held) x) x.at ≡ stopped of_type limit xs end (take read front) (drop read front)
+  stopped-at x e got = rw (← e, from_got held read x got) refl
+
+  pub stopped-end : held ≡ front → None ≡ slice_get held read → last_fault limit xs end ≡ stopped of_type limit xs end (take read front) (drop read front)
+  stopped-end e got = rw (← e, from_none held read got) refl

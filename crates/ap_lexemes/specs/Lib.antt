@@ -1,6 +1,7 @@
 pub mod Terminals
 pub mod Quotes
 pub mod Lexemes
+pub mod Listing
 pub mod Limits
 pub mod Scanning
 pub mod Constructs

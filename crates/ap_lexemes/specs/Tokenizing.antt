@@ -1,7 +1,7 @@
 -- The tokens of a file, with the first limit that they go beyond.
-use Rattle.std.specs.Prelude.{◌≡◌, ℕ, ◌-◌, ◌==◌, ◌&&◌, not, Bool, false, List, Option, None, Some, drop, length, map, take}
+use Rattle.std.specs.Prelude.{◌≡◌, ℕ, ◌-◌, ◌==◌, ◌&&◌, not, Bool, false, List, Option, None, Some, drop, length, take}
 use Rattle.ap_grammar.specs.Lexemes.{Lexeme}
-use Rattle.ap_lexemes.specs.Lexemes.{lexeme_of}
+use Rattle.ap_lexemes.specs.Lexemes.{lexemes_of}
 use Rattle.ap_lexemes.specs.Limits.{first_limit}
 use Rattle.ap_lexemes.specs.Stops.{stopped, up_to}
 use Rattle.ap_lexemes.specs.Texts.{AreLexemes, is_cut}
@@ -11,7 +11,7 @@ use Rattle.ap_lexemes.specs.declared.tokenized.Tokenized.{Tokenized}
 
 -- the tokens as the grammar sees them
 abbrev pub tokens_of : Tokenized → List Lexeme
-tokens_of t = map lexeme_of t.lexemes.items
+tokens_of t = lexemes_of t.text.now t.file t.tokens.items
 
 -- those up to the first limit, which are read
 abbrev pub readable : List Lexeme → List Lexeme

@@ -9,8 +9,6 @@ use ap_grammar::Terminal;
 // A token with its terminal, its characters and its place.
 #[derive(Clone, Copy, Debug)]
 pub struct Lexeme<'a> {
-    // Its kind in the grammar.
-    pub terminal: Terminal,
     // Its characters.
     pub spelling: &'a str,
     // The number that it writes, if it is one.
@@ -19,6 +17,8 @@ pub struct Lexeme<'a> {
     pub file: u32,
     // The byte of the text at which it begins.
     pub at: u32,
+    // Its kind in the grammar.
+    pub terminal: Terminal,
     ghost value: { terminal ≡ Number → number ≡ decimal spelling.now },
     ghost quoted: { terminal ≡ String → BeginsWithQuote spelling.now },
 }

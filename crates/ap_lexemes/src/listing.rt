@@ -1,31 +1,70 @@
 // From tokens of a text to tokens of the grammar.
-ghost use Rattle.std.specs.Prelude.{◌≡◌, ◌<◌, ◌^◌, All, IfOk, IsTrue, map, nat_le};
+ghost use Rattle.std.specs.Prelude.{◌≡◌, ◌<◌, ◌≤◌, ◌^◌, All, IsTrue, drop, length, slice_get, take};
 ghost use Rattle.std.specs.List.{list_all};
+ghost use Rattle.std.specs.Option.{option_map};
 ghost use Rattle.ap_grammar.specs.Lexemes.{decimal};
 ghost use Rattle.ap_lex.specs.Bytes.{is_digit};
 ghost use Rattle.ap_lex.specs.Tokens.{IsToken};
 ghost use Rattle.ap_lexemes.specs.Lexemes.{lexeme_at, lexeme_of, lexemes_of};
+ghost use Rattle.ap_lexemes.specs.Listing.{listed};
+ghost use Rattle.ap_lexemes.specs.Texts.{place_of};
 
 use crate::lexeme::Lexeme;
+use crate::lexemes::Lexemes;
 use crate::terminals::terminal;
 use ap_lex::{Kind, Token};
-use std::alloc::{AllocError, Global};
 
-/// The tokens of a text as the grammar sees them, in order. They borrow the text. `file` is the number of its file.
-pub fn lexemes<'a>(
-    alloc: Global,
-    text: &'a str,
-    tokens: &[Token],
-    file: u32,
-) -> Result<Vec<Lexeme<'a>>, AllocError>
-    requires { All (λ token. IsToken text.now token.kind token.from token.to) tokens.now }
-    ensures { IfOk result (λ found. map lexeme_of found.items ≡ lexemes_of text.now file tokens.now) }
-{
-    let mut found = Vec::new(alloc);
-    for token in tokens {
-        found.push(lexeme(text, *token, file))?;
+impl<'a> Lexemes<'a> {
+    /// These tokens of a text. `file` is the number of its file.
+    pub fn new(text: &'a str, tokens: &'a [Token], file: u32) -> Lexemes<'a>
+        requires { All (λ token. IsToken text.now token.kind token.from token.to) tokens.now }
+        ensures { listed result ≡ lexemes_of text.now file tokens.now }
+    {
+        Lexemes { text, tokens, file }
     }
-    Ok(found)
+
+    /// How many tokens there are.
+    pub fn len(self) -> usize
+        ensures { result ≡ length (listed self.entry) }
+    {
+        self.tokens.len()
+    }
+
+    /// The token of this number, from 0, if there are so many.
+    pub fn get(self, index: usize) -> Option<Lexeme<'a>>
+        ensures { option_map lexeme_of result ≡ slice_get (listed self.entry) index }
+    {
+        match self.tokens.get(index) {
+            Some(token) => Some(lexeme(self.text, *token, self.file)),
+            None => None,
+        }
+    }
+
+    // The place of the token of this number.
+    pub(crate) fn at(self, index: usize) -> u32
+        requires { index < length (listed self) }
+        ensures { result ≡ place_of (listed self.entry) index }
+    {
+        self.tokens[index].from
+    }
+
+    /// So many of them, from the first one on.
+    pub fn front(self, count: usize) -> Lexemes<'a>
+        requires { count ≤ length (listed self) }
+        ensures { listed result ≡ take count (listed self.entry) }
+    {
+        Lexemes::new(self.text, &self.tokens[..count], self.file)
+    }
+
+    /// Those behind the first one, if there is one.
+    pub fn rest(self) -> Lexemes<'a>
+        ensures { listed result ≡ drop 1 (listed self.entry) }
+    {
+        match self.tokens {
+            [_, rest @ ..] => Lexemes::new(self.text, rest, self.file),
+            [] => self,
+        }
+    }
 }
 
 // A token of a text.
@@ -39,11 +78,11 @@ fn lexeme<'a>(text: &'a str, token: Token, file: u32) -> Lexeme<'a>
         _ => 0,
     };
     Lexeme {
-        terminal: terminal(token.kind, spelling),
         spelling,
         number,
         file,
         at: token.from,
+        terminal: terminal(token.kind, spelling),
     }
 }
 

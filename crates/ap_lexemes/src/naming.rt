@@ -1,11 +1,14 @@
 // The name of the unsupported construct that a token begins.
-ghost use Rattle.std.specs.Prelude.{◌≡◌, map};
+ghost use Rattle.std.specs.Prelude.{◌≡◌};
 ghost use Rattle.ap_lexemes.specs.Constructs.{construct_in, construct_of, constructs, context_of, rule_sign, semicolon, spelled, spelled_in};
 ghost use Rattle.ap_lexemes.specs.Lexemes.{lexeme_of};
+ghost use Rattle.ap_lexemes.specs.Listing.{listed};
 
 use crate::construct::Construct;
 use crate::context::Context;
 use crate::lexeme::Lexeme;
+use crate::lexemes::Lexemes;
+use crate::terminals::terminal;
 use ap_grammar::Terminal;
 
 // A spelling and its construct.
@@ -43,8 +46,8 @@ const CONSTRUCTS: [Row; 25] = [
 /// characters, but for two signs: `;` is a pool where a parenthesis of its statement is open, and else a disjunction; `:-` is a
 /// constraint while a type's part is in force, and else nothing. The part in force is that of the last `#program` statement
 /// that has ended, or else the one in which the text begins.
-pub fn construct_of(of_type: bool, read: &[Lexeme<'_>], token: &Lexeme<'_>) -> Option<Construct>
-    ensures { result ≡ construct_of of_type (map lexeme_of read.now) (lexeme_of token.now) }
+pub fn construct_of(of_type: bool, read: Lexemes<'_>, token: &Lexeme<'_>) -> Option<Construct>
+    ensures { result ≡ construct_of of_type (listed read.entry) (lexeme_of token.now) }
 {
     match token.terminal {
         Terminal::Semicolon => Some(semicolon(context_of(of_type, read).parentheses)),
@@ -54,12 +57,12 @@ pub fn construct_of(of_type: bool, read: &[Lexeme<'_>], token: &Lexeme<'_>) -> O
 }
 
 // What stands behind these tokens.
-fn context_of(of_type: bool, read: &[Lexeme<'_>]) -> Context
-    ensures { result ≡ context_of of_type (map lexeme_of read.now) }
+fn context_of(of_type: bool, read: Lexemes<'_>) -> Context
+    ensures { result ≡ context_of of_type (listed read.entry) }
 {
     let mut context = Context::new(of_type);
-    for token in read {
-        context = context.behind(token.terminal);
+    for token in read.tokens {
+        context = context.behind(terminal(token.kind, token.spelling(read.text)));
     }
     context
 }

@@ -1,40 +1,40 @@
 // What a text comes to, by where its reading stops.
-ghost use Rattle.std.specs.Prelude.{◌≡◌, ℕ, ◌<◌, ◌≤◌, ◌++◌, Bool, Err, IfSome, List, drop, length, map, take};
+ghost use Rattle.std.specs.Prelude.{◌≡◌, ℕ, ◌<◌, ◌≤◌, ◌++◌, Bool, Err, IfSome, List, drop, length, take};
 ghost use Rattle.grammar.specs.Fault.{IsFault, IsText};
 ghost use Rattle.ap_grammar.specs.Grammar.{Name as GrammarName, grammar};
 ghost use Rattle.ap_grammar.specs.Lexemes.{Lexeme as LexemeSpec};
 ghost use Rattle.ap_grammar.specs.Values.{Value};
-ghost use Rattle.ap_lexemes.specs.Lexemes.{lexeme_of};
 ghost use Rattle.ap_lexemes.specs.Limits.{first_limit};
+ghost use Rattle.ap_lexemes.specs.Listing.{listed};
 ghost use Rattle.ap_lexemes.specs.Stops.{finished, last_fault, stopped, up_to};
 ghost use Rattle.ap_lexemes.specs.Texts.{IsOutcome, fault_of, in_type};
 
 use crate::construct::Construct;
 use crate::fault::ParseFault;
-use crate::lexeme::Lexeme;
+use crate::lexemes::Lexemes;
 use crate::limit::LimitAt;
 use crate::naming::construct_of;
 
 /// The tokens up to a limit, with that at which it stands, or all of them.
-pub fn up_to<'a>(lexemes: &'a [Lexeme<'a>], limit: Option<LimitAt>) -> &'a [Lexeme<'a>]
-    requires { IfSome limit (λ l. l.index < length lexemes.now) }
-    ensures { map lexeme_of result.now ≡ up_to limit (map lexeme_of lexemes.now) }
+pub fn up_to(lexemes: Lexemes<'_>, limit: Option<LimitAt>) -> Lexemes<'_>
+    requires { IfSome limit (λ l. l.index < length (listed lexemes)) }
+    ensures { listed result ≡ up_to limit (listed lexemes.entry) }
 {
     match limit {
-        Some(limit) => &lexemes[..limit.index + 1],
+        Some(limit) => lexemes.front(limit.index + 1),
         None => lexemes,
     }
 }
 
 /// The fault behind all tokens up to a limit: that limit, or else the place behind all tokens.
-pub fn last_fault(lexemes: &[Lexeme<'_>], limit: Option<LimitAt>, end: u32) -> ParseFault
-    requires { IfSome limit (λ l. l.index < length lexemes.now) }
-    ensures { result ≡ last_fault limit (map lexeme_of lexemes.now) end }
+pub fn last_fault(lexemes: Lexemes<'_>, limit: Option<LimitAt>, end: u32) -> ParseFault
+    requires { IfSome limit (λ l. l.index < length (listed lexemes)) }
+    ensures { result ≡ last_fault limit (listed lexemes.entry) end }
 {
     match limit {
         Some(limit) => ParseFault::Limit {
             which: limit.which,
-            at: lexemes[limit.index].at,
+            at: lexemes.at(limit.index),
         },
         None => ParseFault::Syntax { at: end },
     }
@@ -44,17 +44,17 @@ pub fn last_fault(lexemes: &[Lexeme<'_>], limit: Option<LimitAt>, end: u32) -> P
 /// no text. `end` is the place behind all tokens.
 pub fn fault_behind(
     of_type: bool,
-    lexemes: &[Lexeme<'_>],
+    lexemes: Lexemes<'_>,
     limit: Option<LimitAt>,
     read: usize,
     end: u32,
 ) -> ParseFault
-    requires limit { IfSome limit (λ l. l.index < length lexemes.now) }
-    ensures { result ≡ stopped of_type limit (map lexeme_of lexemes.now) end (take read (up_to limit (map lexeme_of lexemes.now))) (drop read (up_to limit (map lexeme_of lexemes.now))) }
+    requires limit { IfSome limit (λ l. l.index < length (listed lexemes)) }
+    ensures { result ≡ stopped of_type limit (listed lexemes.entry) end (take read (up_to limit (listed lexemes.entry))) (drop read (up_to limit (listed lexemes.entry))) }
 {
     let tokens = up_to(lexemes, limit);
     match tokens.get(read) {
-        Some(token) => fault_of(construct_of(of_type, &tokens[..read], token), token.at),
+        Some(token) => fault_of(construct_of(of_type, tokens.front(read), &token), token.at),
         None => last_fault(lexemes, limit, end),
     }
 }

@@ -1,7 +1,7 @@
 // Texts with their first limits, and tokens with the constructs that they begin.
 ghost use Rattle.std.specs.Prelude.{◌≤◌, ◌*◌, ◌+◌, length};
 
-use crate::{Limit, construct_of, first_limit, lexemes};
+use crate::{Lexemes, Limit, construct_of, first_limit};
 use ap_lex::{MAX_BYTES, tokens_before_fault};
 use std::alloc::Global;
 use std::test::Fail;
@@ -37,8 +37,7 @@ fn limit_shown(alloc: Global, text: &str) -> Result<String, Fail> {
         return Ok(format!(in alloc; "long")?);
     }
     let (tokens, _) = tokens_before_fault(alloc, text)?;
-    let lexemes = lexemes(alloc, text, &tokens, 0)?;
-    match first_limit(alloc, &lexemes)? {
+    match first_limit(alloc, Lexemes::new(text, &tokens, 0))? {
         Some(limit) => {
             let name = limit_name(limit.which);
             let index = limit.index;
@@ -82,11 +81,12 @@ fn construct_shown(alloc: Global, of_type: bool, text: &str) -> Result<&'static 
         return Ok("long");
     }
     let (tokens, _) = tokens_before_fault(alloc, text)?;
-    let lexemes = lexemes(alloc, text, &tokens, 0)?;
-    let [read @ .., token] = lexemes.as_slice() else {
+    let lexemes = Lexemes::new(text, &tokens, 0);
+    let read = lexemes.len().saturating_sub(1);
+    let Some(token) = lexemes.get(read) else {
         return Ok("empty");
     };
-    match construct_of(of_type, read, token) {
+    match construct_of(of_type, lexemes.front(read), &token) {
         Some(construct) => Ok(construct.name()),
         None => Ok("none"),
     }

@@ -1,17 +1,18 @@
 // From the bytes of a file to its tokens.
-ghost use Rattle.std.specs.Prelude.{◌≡◌, ◌≤◌, IfOk, length, map, take};
+ghost use Rattle.std.specs.Prelude.{◌≡◌, ◌≤◌, All, IfOk, length, take};
 ghost use Rattle.std.specs.Str.Lossy.{utf8_valid_len};
-ghost use Rattle.ap_lexemes.specs.Lexemes.{lexeme_of};
+ghost use Rattle.ap_lex.specs.Tokens.{IsToken};
+ghost use Rattle.ap_lexemes.specs.Lexemes.{lexemes_of};
 ghost use Rattle.ap_lexemes.specs.Limits.{first_limit};
+ghost use Rattle.ap_lexemes.specs.Listing.{listed};
 ghost use Rattle.ap_lexemes.specs.Tokenizing.{IsTokenized, fault_where, is_read, readable, tokens_of};
 
 use crate::fault::ParseFault;
-use crate::lexeme::Lexeme;
+use crate::lexemes::Lexemes;
 use crate::limits::first_limit;
-use crate::listing::lexemes;
 use crate::stops::{fault_behind, up_to};
 use crate::tokenized::Tokenized;
-use ap_lex::tokens_before_fault;
+use ap_lex::{Token, tokens_before_fault};
 use std::alloc::{AllocError, Global};
 
 /// The tokens of the bytes of a file, up to the first place where none begins. Where the bytes stop being UTF-8, the text is
@@ -22,8 +23,8 @@ pub fn tokenize<'a>(alloc: Global, bytes: &'a [u8], file: u32) -> Result<Tokeniz
 {
     let text = utf8_front(bytes);
     let (tokens, end) = tokens_before_fault(alloc, text)?;
-    let lexemes = lexemes(alloc, text, &tokens, file)?;
-    Tokenized::new(alloc, lexemes, end, (end as usize) < bytes.len())
+    let is_cut = (end as usize) < bytes.len();
+    Tokenized::new(alloc, text, tokens, file, end, is_cut)
 }
 
 // The longest front that is UTF-8.
@@ -37,31 +38,44 @@ fn utf8_front(bytes: &[u8]) -> &str
 }
 
 impl<'a> Tokenized<'a> {
-    /// These tokens, with the place behind them and whether bytes are left there. It fails for want of memory alone.
+    /// These tokens of a text, with the place behind them and whether bytes are left there. `file` is the number of its
+    /// file. It fails for want of memory alone.
     pub fn new(
         alloc: Global,
-        lexemes: Vec<Lexeme<'a>>,
+        text: &'a str,
+        tokens: Vec<Token>,
+        file: u32,
         end: u32,
         is_cut: bool,
     ) -> Result<Tokenized<'a>, AllocError>
-        ensures tokens { IfOk result (λ all. tokens_of all ≡ map lexeme_of lexemes.entry.items) }
+        requires { All (λ token. IsToken text.now token.kind token.from token.to) tokens.items }
+        ensures tokens { IfOk result (λ all. tokens_of all ≡ lexemes_of text.now file tokens.items) }
         ensures end { IfOk result (λ all. all.end ≡ end) }
         ensures cut { IfOk result (λ all. all.is_cut ≡ is_cut) }
     {
-        let limit = first_limit(alloc, &lexemes)?;
+        let limit = first_limit(alloc, Lexemes::new(text, &tokens, file))?;
         Ok(Tokenized {
-            lexemes,
+            text,
+            tokens,
+            file,
             end,
             is_cut,
             limit,
         })
     }
 
-    /// The tokens up to the first limit, with that at which it stands: those that are to be read.
-    pub fn readable(&self) -> &[Lexeme<'_>]
-        ensures { map lexeme_of result.now ≡ readable (tokens_of self.now) }
+    // All tokens.
+    fn lexemes(&self) -> Lexemes<'_>
+        ensures { listed result ≡ tokens_of self.now }
     {
-        up_to(&self.lexemes, self.limit)
+        Lexemes::new(self.text, &self.tokens, self.file)
+    }
+
+    /// The tokens up to the first limit, with that at which it stands: those that are to be read.
+    pub fn readable(&self) -> Lexemes<'_>
+        ensures { listed result ≡ readable (tokens_of self.now) }
+    {
+        up_to(self.lexemes(), self.limit)
     }
 
     /// Whether all was read where so many of the tokens up to the first limit are left: none, no limit stands in the tokens, and
@@ -78,6 +92,6 @@ impl<'a> Tokenized<'a> {
         ensures { result ≡ fault_where of_type (tokens_of self.now) self.now.end left }
     {
         let read = self.readable().len() - left;
-        fault_behind(of_type, &self.lexemes, self.limit, read, self.end)
+        fault_behind(of_type, self.lexemes(), self.limit, read, self.end)
     }
 }

@@ -27,6 +27,7 @@ use Rattle.ap_parse.specs.declared.bodies.Core.{Core}
 use Rattle.ap_parse.specs.declared.bodies.Core.TheVariants as cores
 use Rattle.literal_parse.specs.declared.cursor.Place.{Place}
 use Rattle.literal_parse.specs.declared.error.Stop.{Stop}
+use Rattle.literal_parse.specs.declared.error.Stop.TheVariants.{Memory}
 use Rattle.literal_parse.specs.declared.operand.Operand.{Operand}
 use Rattle.literal_parse.specs.declared.operand.Operand.TheVariants.{Bare, Other}
 use Rattle.ap_parse.specs.Aggregates.{IsAggregate, guarding}
@@ -294,6 +295,10 @@ item_failed Reads.memory k = ReadsItem.memory
 -- by a `?` whose part failed
 pub item_exit : {X : Type 0} {a : Rhs} {is : X → List Value → Type 0} {xs ys end : List Lexeme} {r : Result BodyItem Stop} {e : Stop} → Reads a is ys end (Err e) → IsErrAnd r (λ d. d ≡ e) → (Fails factored tables a ys end → Fails factored tables (call Name.Body) xs end) → ReadsItem xs end r
 item_exit {r = r} f h k = let p = err_of r h in rw (p.1, p.2) (item_failed f k)
+
+-- by a `?` for want of memory
+pub item_memory : {xs end : List Lexeme} {r : Result BodyItem Stop} → IsErrAnd r (λ d. d ≡ Memory) → ReadsItem xs end r
+item_memory {r = r} h = let p = err_of r h in rw (p.1, p.2) ReadsItem.memory
 
 colon_starts : (xs : List Lexeme) → Starts factored tables (Tok t.Colon) xs → Starts factored tables (call Name.Condition) xs
 colon_starts [] h = absurd h

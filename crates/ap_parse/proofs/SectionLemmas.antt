@@ -1,6 +1,7 @@
 -- What sections and texts come to, for texts with preference statements (`whole`) and without.
 use Rattle.std.proofs.Common.{◌≡◌, ◌<◌, ℕ, List, [], ◌∷◌, ◌++◌, Bool, true, false, Ok, Result, refl, sym, ◌∙◌, ap, length, append_assoc, append-nil}
 use Rattle.std.specs.Prelude.{if◌then◌else◌, map}
+use Rattle.std.specs.Global.{Vec}
 use Rattle.std.proofs.lemmas.List.{map-append}
 use Rattle.grammar.specs.Form.{◌⨾◌, ◌∣◌}
 use Rattle.grammar.specs.Form.Form.{Tok, Call, Empty, Star}
@@ -82,7 +83,7 @@ grows_more {before = before} {s = s} g r =
 pub grows_fail : {item : Rhs} {start here end : List Lexeme} {before now : List Statement} → Grows item start here before now → Starts factored tables item here → Fails factored tables item here end → Fails factored tables (Star item) start end
 grows_fail g s f = listed_fail g.listed s f
 
-pub grows_end : {item : Rhs} {start here : List Lexeme} {before now : List Statement} → Grows item start here before now → NotStarts factored tables item here → Reads (Star item) (IsMore before) start here (Ok now)
+pub grows_end : {item : Rhs} {start here : List Lexeme} {before : List Statement} {all : Vec Statement} → Grows item start here before all.items → NotStarts factored tables item here → Reads (Star item) (λ (v : Vec Statement). IsMore before v.items) start here (Ok all)
 grows_end g n = Reads.ok (record { more = g.more; values = refl; grown = g.grown }) (listed_end g.listed n)
 
 pub statement_shorter : (whole of_type : Bool) {xs ys : List Lexeme} {s : Statement} → Reads (call (Name.Statement whole of_type)) IsStatement xs ys (Ok s) → length ys < length xs
@@ -168,7 +169,7 @@ module _ (whole : Bool) where
   section_made : (s : Statement) (ss : List Statement) (ws : List Value) → opened ws ≡ Value.statement s ∷ map Value.statement ss → Value.program (statements_of (opened ws)) ≡ Value.program (s ∷ ss)
   section_made s ss ws e = rw e (ap (λ us. Value.program (s ∷ us)) (statements_alone ss))
 
-  pub section_read : {xs ms ys : List Lexeme} {o : Opening} {before pushed : List Statement} {of_type : Bool} {r : Result (List Statement) Stop} → Reads opening_form IsOpening xs ms (Ok o) → pushed ≡ before ++ opening_statement o ∷ [] → of_type ≡ is_of_type o.part → Reads (Star (call (Name.Statement whole of_type))) (IsMore pushed) ms ys r → Reads (Call (Part.Section whole)) (IsSection before) xs ys r
+  pub section_read : {xs ms ys : List Lexeme} {o : Opening} {before pushed : List Statement} {of_type : Bool} {r : Result (Vec Statement) Stop} → Reads opening_form IsOpening xs ms (Ok o) → pushed ≡ before ++ opening_statement o ∷ [] → of_type ≡ is_of_type o.part → Reads (Star (call (Name.Statement whole of_type))) (λ (v : Vec Statement). IsMore pushed v.items) ms ys r → Reads (Call (Part.Section whole)) (λ (v : Vec Statement). IsSection before v.items) xs ys r
   section_read {ms = ms} {ys = ys} {o = o} {before = before} p e f r =
       let q = opening_goes (Star (call (Name.Statement whole false))) (Star (call (Name.Statement whole true))) p in
       follow r
@@ -209,7 +210,7 @@ module _ (whole : Bool) where
   one_part_more : (parts : List (List Statement)) (p : List Statement) → statements_of (map Value.program (parts ++ p ∷ [])) ≡ statements_of (map Value.program parts) ++ p
   one_part_more parts p = rw map-append (programs_first parts (Value.program p ∷ []) ∙ ap (λ us. statements_of (map Value.program parts) ++ us) (append-nil p))
 
-  pub sections_more : {start here end : List Lexeme} {before now all : List Statement} → Sections start here before now → Reads (Call (Part.Section whole)) (IsSection now) here end (Ok all) → Sections start end before all
+  pub sections_more : {start here end : List Lexeme} {before now : List Statement} {all : Vec Statement} → Sections start here before now → Reads (Call (Part.Section whole)) (λ (v : Vec Statement). IsSection now v.items) here end (Ok all) → Sections start end before all.items
   sections_more {before = before} s r =
       let q = taken r in
       let p = q.makes.more in
@@ -219,18 +220,18 @@ module _ (whole : Bool) where
         grown = q.makes.grown ∙ ap (λ us. us ++ p) s.grown ∙ append_assoc before (statements_of (map Value.program s.parts)) p ∙ ap (λ us. before ++ us) (sym (one_part_more s.parts p));
       }
 
-  pub section_shorter : {xs ys : List Lexeme} {before all : List Statement} → Reads (Call (Part.Section whole)) (IsSection before) xs ys (Ok all) → length ys < length xs
+  pub section_shorter : {xs ys : List Lexeme} {before : List Statement} {all : Vec Statement} → Reads (Call (Part.Section whole)) (λ (v : Vec Statement). IsSection before v.items) xs ys (Ok all) → length ys < length xs
   section_shorter r = takes_some (Part.Section whole) refl (taken r).takes
 
   module _ (of_type : Bool) where
     pub text_fails : {xs ys : List Lexeme} → Fails factored tables (Star (call (Name.Statement whole of_type))) xs ys → Fails factored tables (call (Name.Text whole of_type)) xs ys
     text_fails f = Fails.call (Fails.first f)
 
-    module _ {xs ms here : List Lexeme} {empty first now : List Statement} (r : Reads (Star (call (Name.Statement whole of_type))) (IsMore empty) xs ms (Ok first)) (s : Sections ms here first now) where
+    module _ {xs ms here : List Lexeme} {empty now : List Statement} {first : Vec Statement} (r : Reads (Star (call (Name.Statement whole of_type))) (λ (v : Vec Statement). IsMore empty v.items) xs ms (Ok first)) (s : Sections ms here first.items now) where
       pub text_section_fails : {end : List Lexeme} → Starts factored tables (Tok t.Program) here → Fails factored tables (Call (Part.Section whole)) here end → Fails factored tables (call (Name.Text whole of_type)) xs end
       text_section_fails b f = Fails.call (Fails.second (taken r).takes (listed_fail s.listed (program_starts here b) f))
 
-      text_made : (more : List Statement) → empty ≡ [] → first ≡ empty ++ more → statements_of (map Value.statement more ++ map Value.program s.parts) ≡ now
+      text_made : (more : List Statement) → empty ≡ [] → first.items ≡ empty ++ more → statements_of (map Value.statement more ++ map Value.program s.parts) ≡ now
       text_made more e f = statements_first more (map Value.program s.parts) ∙ ap (λ us. us ++ statements_of (map Value.program s.parts)) (sym (rw e at f)) ∙ sym s.grown
 
       pub text_read : empty ≡ [] → Lacks t.Program here → Reads (call (Name.Text whole of_type)) IsProgram xs here (Ok now)

@@ -13,9 +13,9 @@ ghost use Rattle.literal_parse.specs.Reads.{Reads, Tells};
 
 use crate::guards::read_optional_guard;
 use ap_grammar::Terminal;
-use ap_syntax::{AggElement, Function, Guard};
+use ap_syntax::{AggElement, Function, Guard, fitted};
 use literal_parse::{Cursor, Stop, is_term_start, read_optional_condition, read_terms};
-use sqlite_items::Items;
+use sqlite_items::{Boxed, Items};
 use std::alloc::Global;
 
 // An aggregate with the guard behind it.
@@ -26,7 +26,7 @@ pub struct Aggregate {
     // The elements between the braces.
     pub elements: Items<AggElement>,
     // The guard behind the braces.
-    pub right: Option<Guard>,
+    pub right: Option<Boxed<Guard>>,
 }
 
 // Whether the next token begins an element of an aggregate.
@@ -61,7 +61,7 @@ fn read_element(alloc: Global, tokens: &mut Cursor<'_>) -> Result<AggElement, St
     ensures read { Reads (call names.AggElement) IsAggElement tokens.old tokens.new result }
     ensures shorter { length tokens.new ≤ length tokens.old }
 {
-    let terms = read_terms(alloc, tokens, Items::new(alloc))?;
+    let terms = read_terms(alloc, tokens, Vec::new(alloc))?;
     let condition = read_optional_condition(alloc, tokens)?;
     Ok(AggElement { terms, condition })
 }
@@ -72,13 +72,13 @@ fn read_elements(alloc: Global, tokens: &mut Cursor<'_>) -> Result<Items<AggElem
     ensures shorter { length tokens.new ≤ length tokens.old }
 {
     let first = read_element(alloc, tokens)?;
-    let mut elements = Items::new(alloc);
+    let mut elements = Vec::new(alloc);
     elements.push(first)?;
     'semicolons: while tokens.eat(Terminal::Semicolon) {
         let next = read_element(alloc, tokens)?;
         elements.push(next)?;
     }
-    Ok(elements)
+    Ok(fitted(elements))
 }
 
 // Elements with semicolons between them, or none.

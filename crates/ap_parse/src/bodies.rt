@@ -11,9 +11,9 @@ ghost use Rattle.literal_parse.specs.Reads.{Reads};
 
 use crate::aggregates::{Aggregate, begins_aggregate, read_aggregate};
 use ap_grammar::Terminal;
-use ap_syntax::{BodyItem, Guard, Literal, Rel, Term};
+use ap_syntax::{BodyItem, Guard, Literal, Rel, Term, fitted};
 use literal_parse::{Cursor, Operand, Stop, read_condition, read_term, relation};
-use sqlite_items::Items;
+use sqlite_items::{Boxed, Items};
 use std::alloc::Global;
 
 // What an item of a body begins with, before it is known whether a condition stands behind it.
@@ -26,7 +26,7 @@ enum Core {
         // Whether `not` stands before it.
         negated: bool,
         // The guard on the left.
-        left: Option<Guard>,
+        left: Option<Boxed<Guard>>,
         // The aggregate with the guard on the right.
         aggregate: Aggregate,
     },
@@ -68,7 +68,7 @@ fn read_behind(alloc: Global, tokens: &mut Cursor<'_>, left: Operand) -> Result<
         };
         return Ok(Core::Aggregate {
             negated: false,
-            left: Some(guard),
+            left: Some(Boxed::new(alloc, guard)?),
             aggregate,
         });
     }
@@ -86,12 +86,14 @@ fn read_related(alloc: Global, tokens: &mut Cursor<'_>, left: Term, rel: Rel) ->
         let guard = Guard { rel, term: left };
         return Ok(Core::Aggregate {
             negated: false,
-            left: Some(guard),
+            left: Some(Boxed::new(alloc, guard)?),
             aggregate,
         });
     }
     let right = read_term(alloc, tokens)?;
-    Ok(Core::Literal(Literal::Compare(left, rel, right.into_term())))
+    let left = Boxed::new(alloc, left)?;
+    let right = Boxed::new(alloc, right.into_term())?;
+    Ok(Core::Literal(Literal::Compare(left, rel, right)))
 }
 
 // What stands behind `not`.
@@ -124,7 +126,7 @@ fn read_negated_behind(alloc: Global, tokens: &mut Cursor<'_>, left: Operand) ->
         };
         return Ok(Core::Aggregate {
             negated: true,
-            left: Some(guard),
+            left: Some(Boxed::new(alloc, guard)?),
             aggregate,
         });
     }
@@ -136,7 +138,7 @@ fn read_negated_behind(alloc: Global, tokens: &mut Cursor<'_>, left: Operand) ->
         };
         return Ok(Core::Aggregate {
             negated: true,
-            left: Some(guard),
+            left: Some(Boxed::new(alloc, guard)?),
             aggregate,
         });
     }
@@ -172,7 +174,7 @@ fn read_item(alloc: Global, tokens: &mut Cursor<'_>) -> Result<BodyItem, Stop>
     let condition = read_condition(alloc, tokens)?;
     Ok(BodyItem::All {
         at: place.at,
-        literal,
+        literal: Boxed::new(alloc, literal)?,
         condition,
     })
 }
@@ -195,12 +197,12 @@ pub fn read_body(alloc: Global, tokens: &mut Cursor<'_>) -> Result<Items<BodyIte
     ensures read { Reads (call names.Body) IsBody tokens.old tokens.new result }
     ensures shorter { length tokens.new ≤ length tokens.old }
 {
-    let mut items = Items::new(alloc);
+    let mut items = Vec::new(alloc);
     let mut last = read_item(alloc, tokens)?;
     'separators: while separates(tokens, &last) {
         items.push(last)?;
         last = read_item(alloc, tokens)?;
     }
     items.push(last)?;
-    Ok(items)
+    Ok(fitted(items))
 }

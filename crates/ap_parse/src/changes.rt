@@ -1,8 +1,8 @@
 // Which `#program` statements change the part.
-ghost use Rattle.std.specs.Prelude.{◌≡◌, IfOk, reverse};
+ghost use Rattle.std.specs.Prelude.{◌≡◌, IfOk, IsTrue, reverse};
 ghost use Rattle.ap_parse.specs.Changes.{changing, part_after, repeats, same_part};
 
-use ap_syntax::{PartKind, Statement};
+use ap_syntax::{PartKind, Statement, fitted};
 use sqlite_items::Items;
 use std::alloc::{AllocError, Global};
 
@@ -25,6 +25,30 @@ fn repeats(part: &PartKind, statement: &Statement) -> bool
         Statement::Part { part: new, .. } => same_part(part, new),
         _ => false,
     }
+}
+
+// The part in force behind a statement, where it is.
+fn part_behind<'a>(part: &'a PartKind, statement: &'a Statement) -> &'a PartKind
+    ensures { result.now ≡ part_after part.now statement.now }
+{
+    match statement {
+        Statement::Part { part: new, .. } => new,
+        _ => part,
+    }
+}
+
+// Whether none of the statements opens the part that is in force, which is at first this one. Then all of them stay.
+fn all_change(first: &PartKind, statements: &[Statement]) -> bool
+    ensures { IsTrue result → changing first.now statements.now ≡ statements.now }
+{
+    let mut part = first;
+    for statement in statements {
+        if repeats(part, statement) {
+            return false;
+        }
+        part = part_behind(part, statement);
+    }
+    true
 }
 
 // The part in force behind a statement.
@@ -51,11 +75,11 @@ fn copy_part(alloc: Global, part: &PartKind) -> Result<PartKind, AllocError>
 fn reversed(alloc: Global, mut statements: Items<Statement>) -> Result<Items<Statement>, AllocError>
     ensures { IfOk result (λ all. all ≡ reverse statements) }
 {
-    let mut all = Items::new(alloc);
+    let mut all = Vec::with_capacity(alloc, statements.len())?;
     'statements: while let Some(last) = statements.pop() {
         all.push(last)?;
     }
-    Ok(all)
+    Ok(Items::from_vec(all))
 }
 
 /// The statements without each `#program` that opens the part already in force, which is at first this one.
@@ -66,14 +90,17 @@ pub fn changing(
 ) -> Result<Items<Statement>, AllocError>
     ensures { IfOk result (λ all. all ≡ changing first statements) }
 {
+    if all_change(&first, statements.as_slice()) {
+        return Ok(statements);
+    }
     let mut part = first;
     let mut rest = reversed(alloc, statements)?;
-    let mut kept = Items::new(alloc);
+    let mut kept = Vec::with_capacity(alloc, rest.len())?;
     'statements: while let Some(next) = rest.pop() {
         if !repeats(&part, &next) {
             part = part_after(alloc, part, &next)?;
             kept.push(next)?;
         }
     }
-    Ok(kept)
+    Ok(fitted(kept))
 }

@@ -10,9 +10,9 @@ ghost use Rattle.literal_parse.specs.Reads.{Reads, Tells};
 
 use crate::guards::read_optional_guard;
 use ap_grammar::Terminal;
-use ap_syntax::{ChoiceElement, Guard, HeadForm};
+use ap_syntax::{ChoiceElement, Guard, HeadForm, fitted};
 use literal_parse::{Cursor, Stop, read_atom, read_optional_condition};
-use sqlite_items::Items;
+use sqlite_items::{Boxed, Items};
 use std::alloc::Global;
 
 // Whether an element begins with a token of this kind: with a name.
@@ -50,17 +50,17 @@ fn read_listed(alloc: Global, tokens: &mut Cursor<'_>) -> Result<Items<ChoiceEle
     ensures read { Reads listed IsListed tokens.old tokens.new result }
     ensures shorter { length tokens.new ≤ length tokens.old }
 {
-    let mut elements = Items::new(alloc);
     if !begins_element(tokens) {
-        return Ok(elements);
+        return Ok(Items::new(alloc));
     }
     let first = read_element(alloc, tokens)?;
+    let mut elements = Vec::new(alloc);
     elements.push(first)?;
     'semicolons: while tokens.eat(Terminal::Semicolon) {
         let next = read_element(alloc, tokens)?;
         elements.push(next)?;
     }
-    Ok(elements)
+    Ok(fitted(elements))
 }
 
 // The elements of a choice in their braces.
@@ -80,7 +80,7 @@ fn read_braced(alloc: Global, tokens: &mut Cursor<'_>) -> Result<Items<ChoiceEle
 pub fn read_choice(
     alloc: Global,
     tokens: &mut Cursor<'_>,
-    left: Option<Guard>,
+    left: Option<Boxed<Guard>>,
 ) -> Result<HeadForm, Stop>
     ensures read { Reads choice (IsChoice tokens.old left) tokens.old tokens.new result }
     ensures shorter { length tokens.new ≤ length tokens.old }

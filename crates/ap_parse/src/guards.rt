@@ -12,6 +12,7 @@ ghost use Rattle.literal_parse.specs.Reads.{Reads, Tells};
 use ap_grammar::Terminal;
 use ap_syntax::{Guard, Rel};
 use literal_parse::{Cursor, Stop, is_term_start, read_term, relation};
+use sqlite_items::Boxed;
 use std::alloc::Global;
 
 // Whether a guard behind the braces begins with a token of this kind.
@@ -54,7 +55,10 @@ pub fn read_right_guard(alloc: Global, tokens: &mut Cursor<'_>) -> Result<Guard,
 }
 
 // A guard behind the braces, or none.
-pub fn read_optional_guard(alloc: Global, tokens: &mut Cursor<'_>) -> Result<Option<Guard>, Stop>
+pub fn read_optional_guard(
+    alloc: Global,
+    tokens: &mut Cursor<'_>,
+) -> Result<Option<Boxed<Guard>>, Stop>
     ensures read { Reads (opt (call names.RightGuard)) IsOptionalGuard tokens.old tokens.new result }
     ensures shorter { length tokens.new ≤ length tokens.old }
 {
@@ -62,5 +66,5 @@ pub fn read_optional_guard(alloc: Global, tokens: &mut Cursor<'_>) -> Result<Opt
         return Ok(None);
     }
     let guard = read_right_guard(alloc, tokens)?;
-    Ok(Some(guard))
+    Ok(Some(Boxed::new(alloc, guard)?))
 }

@@ -12,6 +12,7 @@ use crate::choices::read_choice;
 use ap_grammar::Terminal;
 use ap_syntax::{Guard, HeadForm, Rel};
 use literal_parse::{Cursor, Stop, is_term_start, read_term, relation};
+use sqlite_items::Boxed;
 use std::alloc::Global;
 
 // Whether a head begins with a token of this kind.
@@ -55,11 +56,13 @@ pub fn read_head(alloc: Global, tokens: &mut Cursor<'_>) -> Result<HeadForm, Sto
     let first = read_term(alloc, tokens)?;
     if let Some(rel) = relation(tokens) {
         let term = first.into_term();
-        return read_choice(alloc, tokens, Some(Guard { rel, term }));
+        let guard = Boxed::new(alloc, Guard { rel, term })?;
+        return read_choice(alloc, tokens, Some(guard));
     }
     if tokens.sees(Terminal::OpenBrace) {
         let term = first.into_term();
-        return read_choice(alloc, tokens, Some(Guard { rel: Rel::Le, term }));
+        let guard = Boxed::new(alloc, Guard { rel: Rel::Le, term })?;
+        return read_choice(alloc, tokens, Some(guard));
     }
     let atom = first.into_atom()?;
     Ok(HeadForm::One(atom))

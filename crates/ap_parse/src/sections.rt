@@ -2,16 +2,18 @@
 #![tactic(auto, using(literal_parse::proofs::Steps::no_memory))]
 
 ghost use Rattle.std.specs.Prelude.{false, length, ◌≤◌};
+ghost use Rattle.std.specs.Global.{Vec as VecSpec};
 ghost use Rattle.grammar.specs.Form.Form.{Call, Star};
 ghost use Rattle.ap_grammar.specs.Grammar.{Name as names};
 ghost use Rattle.ap_grammar.specs.Factored.{call, Part as parts};
 ghost use Rattle.literal_parse.specs.Reads.{Reads};
+ghost use Rattle.ap_syntax.specs.declared.programs.Statement.{Statement as StatementSpec};
 ghost use Rattle.ap_parse.specs.Sections.{IsMore, IsProgram, IsSection};
 
 use crate::openings::read_opening;
 use crate::statements::{begins_statement, read_statement};
 use ap_grammar::Terminal;
-use ap_syntax::Statement;
+use ap_syntax::{Statement, fitted};
 use literal_parse::{Cursor, Stop};
 use sqlite_items::Items;
 use std::alloc::Global;
@@ -21,9 +23,9 @@ fn read_statements(
     alloc: Global,
     tokens: &mut Cursor<'_>,
     of_type: bool,
-    mut statements: Items<Statement>,
-) -> Result<Items<Statement>, Stop>
-    ensures read { Reads (Star (call (names.Statement false of_type))) (IsMore statements) tokens.old tokens.new result }
+    mut statements: Vec<Statement>,
+) -> Result<Vec<Statement>, Stop>
+    ensures read { Reads (Star (call (names.Statement false of_type))) (λ (all : VecSpec StatementSpec). IsMore statements.items all.items) tokens.old tokens.new result }
     ensures shorter { length tokens.new ≤ length tokens.old }
 {
     'statements: while begins_statement(tokens, of_type) {
@@ -37,9 +39,9 @@ fn read_statements(
 fn read_section(
     alloc: Global,
     tokens: &mut Cursor<'_>,
-    mut statements: Items<Statement>,
-) -> Result<Items<Statement>, Stop>
-    ensures read { Reads (Call (parts.Section false)) (IsSection statements) tokens.old tokens.new result }
+    mut statements: Vec<Statement>,
+) -> Result<Vec<Statement>, Stop>
+    ensures read { Reads (Call (parts.Section false)) (λ (all : VecSpec StatementSpec). IsSection statements.items all.items) tokens.old tokens.new result }
     ensures shorter { length tokens.new ≤ length tokens.old }
 {
     let opening = read_opening(alloc, tokens)?;
@@ -57,9 +59,9 @@ pub fn read_text(
     ensures read { Reads (call (names.Text false of_type)) IsProgram tokens.old tokens.new result }
     ensures shorter { length tokens.new ≤ length tokens.old }
 {
-    let mut statements = read_statements(alloc, tokens, of_type, Items::new(alloc))?;
+    let mut statements = read_statements(alloc, tokens, of_type, Vec::new(alloc))?;
     'sections: while tokens.sees(Terminal::Program) {
         statements = read_section(alloc, tokens, statements)?;
     }
-    Ok(statements)
+    Ok(fitted(statements))
 }

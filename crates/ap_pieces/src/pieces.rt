@@ -9,7 +9,7 @@ use crate::variables::{Occurrence, all_occurrences, push_one, term_occurrences};
 use ap_syntax::{
     AggElement, BodyItem, ChoiceElement, Guard, HeadForm, Literal, Rel, Rule, Term, Text,
 };
-use sqlite_items::Items;
+use sqlite_items::{Boxed, Items};
 use std::alloc::{AllocError, Global};
 
 /// One side of a comparison.
@@ -92,7 +92,7 @@ fn read_mention(alloc: Global, literal: &Literal) -> Result<Mention, AllocError>
     match literal {
         Literal::Pos(atom) => Ok(Mention::Atom(all_occurrences(alloc, atom.terms.as_slice())?)),
         Literal::Not(atom) => Ok(Mention::Other(all_occurrences(alloc, atom.terms.as_slice())?)),
-        Literal::Compare(left, rel, right) => comparison(alloc, left, *rel, right),
+        Literal::Compare(left, rel, right) => comparison(alloc, left.get(), *rel, right.get()),
     }
 }
 
@@ -115,7 +115,7 @@ fn occurrences_in(alloc: Global, literal: &Literal) -> Result<Items<Occurrence>,
     match literal {
         Literal::Pos(atom) => all_occurrences(alloc, atom.terms.as_slice()),
         Literal::Not(atom) => all_occurrences(alloc, atom.terms.as_slice()),
-        Literal::Compare(left, _, right) => both_occurrences(alloc, left, right),
+        Literal::Compare(left, _, right) => both_occurrences(alloc, left.get(), right.get()),
     }
 }
 
@@ -130,13 +130,13 @@ fn push_uses(alloc: Global, pieces: &mut Items<Piece>, terms: &[Term]) -> Result
 fn push_guard(
     alloc: Global,
     pieces: &mut Items<Piece>,
-    guard: &Option<Guard>,
+    guard: &Option<Boxed<Guard>>,
 ) -> Result<(), AllocError>
     ensures { OnOk result (pieces.new ≡ pieces.old ++ guard_pieces guard.now) }
 {
     match guard {
         None => Ok(()),
-        Some(guard) => pieces.push(Piece::Uses(term_occurrences(alloc, &guard.term)?)),
+        Some(guard) => pieces.push(Piece::Uses(term_occurrences(alloc, &guard.get().term)?)),
     }
 }
 
@@ -182,9 +182,9 @@ fn push_tuples(
 fn push_choice(
     alloc: Global,
     pieces: &mut Items<Piece>,
-    left: &Option<Guard>,
+    left: &Option<Boxed<Guard>>,
     elements: &[ChoiceElement],
-    right: &Option<Guard>,
+    right: &Option<Boxed<Guard>>,
 ) -> Result<(), AllocError>
     ensures { OnOk result (pieces.new ≡ pieces.old ++ guard_pieces left.now ++ map choice_piece elements.now ++ guard_pieces right.now) }
 {
@@ -196,9 +196,9 @@ fn push_choice(
 fn push_aggregate(
     alloc: Global,
     pieces: &mut Items<Piece>,
-    left: &Option<Guard>,
+    left: &Option<Boxed<Guard>>,
     elements: &[AggElement],
-    right: &Option<Guard>,
+    right: &Option<Boxed<Guard>>,
 ) -> Result<(), AllocError>
     ensures { OnOk result (pieces.new ≡ pieces.old ++ guard_pieces left.now ++ map tuple_piece elements.now ++ guard_pieces right.now) }
 {
@@ -242,7 +242,7 @@ fn push_item(alloc: Global, pieces: &mut Items<Piece>, item: &BodyItem) -> Resul
             at: _,
             literal,
             condition,
-        } => push_conditional(alloc, pieces, literal, condition.as_slice()),
+        } => push_conditional(alloc, pieces, literal.get(), condition.as_slice()),
         BodyItem::Agg {
             negated: _,
             left,

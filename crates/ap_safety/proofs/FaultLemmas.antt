@@ -12,7 +12,7 @@ use Rattle.ap_syntax.specs.declared.rules.BodyItem.TheVariants.{Plain, All as Co
 use Rattle.ap_syntax.specs.declared.terms.Literal.{Literal}
 use Rattle.ap_syntax.specs.declared.terms.Literal.TheVariants.{Pos, Not, Compare}
 use Rattle.ap_syntax.specs.declared.rules.ChoiceElement.{ChoiceElement}
-use Rattle.ap_safety.specs.declared.pred.Pred.{Pred}
+use Rattle.pred_graph.specs.declared.pred.Pred.{Pred}
 use Rattle.ap_pieces.specs.declared.pieces.Piece.{Piece}
 use Rattle.ap_safety.specs.declared.safe.Safe.{Safe}
 use Rattle.ap_bindings.specs.declared.search.Failing.{Failing}
@@ -21,16 +21,16 @@ use Rattle.ap_safety.specs.declared.conditions.RuleFault.TheVariants.{Aggregate,
 use Rattle.ap_pieces.specs.declared.variables.Occurrence.{Occurrence}
 use Rattle.ap_bindings.specs.Texts.{IsFirstFailing, first_failing}
 use Rattle.ap_pieces.specs.Pieces.{rule_pieces, piece_occurrences}
-use Rattle.ap_safety.specs.Predicates.{pred_of, preds_of, positives_of, literal_preds, positive_preds, aggregate_preds, item_preds, item_positives, choice_elements}
+use Rattle.pred_graph.specs.Predicates.{pred_of, preds_of, positives_of, literal_preds, positive_preds, aggregate_preds, item_preds, item_positives, choice_elements}
 use Rattle.ap_safety.specs.Conditions.{Domain, MeetsHead, MeetsAtom, HasVariable, HasAggregateFault, HasRecursion, IsIndefinite, rule_place, domain_place}
-use Rattle.ap_safety.specs.Tables.{place_in}
-use Rattle.ap_safety.specs.Graphs.{number_of}
+use Rattle.pred_graph.specs.Tables.{place_in}
+use Rattle.pred_graph.specs.Graphs.{number_of}
 use Rattle.ap_safety.specs.Answers.{definite_in, IsSafe, IsJudged}
 use Rattle.ap_safety.specs.Tests.{is_some_occurrence, has_variable, number_in, rule_number, meets, meets_atom, base_recursion, kind_recursion, has_fault, HasFault, rule_failing, first_rule, is_indefinite, domain_failing, look_at, first_domain}
-use Rattle.ap_safety.proofs.MemberLemmas.{nothing_in, in_flat_map, from_flat_map, any_of, from_any}
+use Rattle.pred_graph.proofs.MemberLemmas.{nothing_in, in_flat_map, from_flat_map, any_of, from_any}
 use Rattle.ap_bindings.proofs.FirstLemmas.{none_fails, this_fails, this_passes, in_both}
-use Rattle.ap_safety.proofs.EdgeLemmas.{IsAt}
-use Rattle.ap_safety.proofs.DependLemmas.{Numbers, at_in, atom_mentioned, condition_mentioned, meets_number, number_meets}
+use Rattle.pred_graph.proofs.EdgeLemmas.{IsAt}
+use Rattle.pred_graph.proofs.DependLemmas.{Numbers, at_in, atom_mentioned, condition_mentioned, meets_number, number_meets}
 use Rattle.ap_safety.proofs.JudgeLemmas.{numbers_of, mutual_numbers}
 
 -- ---- tests of a list

@@ -7,20 +7,20 @@ use Rattle.std.proofs.lemmas.List.{get_or_default}
 use Rattle.indexmap.specs.IndexSet.{insert_all}
 use Rattle.definite.specs.Rules.{marked}
 use Rattle.ap_syntax.specs.declared.rules.Rule.{Rule}
-use Rattle.ap_safety.specs.declared.pred.Pred.{Pred}
+use Rattle.pred_graph.specs.declared.pred.Pred.{Pred}
 use Rattle.ap_safety.specs.declared.safe.Safe.{Safe}
-use Rattle.ap_safety.specs.declared.graph.Edge.{Edge}
-use Rattle.ap_safety.specs.Walks.{IsWalk}
-use Rattle.ap_safety.specs.Predicates.{Depends, Reaches, rule_preds, choice_preds}
-use Rattle.ap_safety.specs.Tables.{is_pred, place_in}
-use Rattle.ap_safety.specs.Components.{is_open_name, IsOpen, AreMutual, IsLower, IsDecided, IsDefinite, IsOrderOf}
-use Rattle.ap_safety.specs.Graphs.{HasEdge, IsEdgeBelow, edges_from, AreNumbers, number_of}
+use Rattle.pred_graph.specs.declared.graph.Edge.{Edge}
+use Rattle.pred_graph.specs.Walks.{IsWalk}
+use Rattle.pred_graph.specs.Predicates.{Depends, Reaches, rule_preds, choice_preds}
+use Rattle.pred_graph.specs.Tables.{is_pred, place_in}
+use Rattle.pred_graph.specs.Components.{is_open_name, IsOpen, AreMutual, IsLower, IsDecided, IsDefinite, IsOrderOf}
+use Rattle.pred_graph.specs.Graphs.{HasEdge, IsEdgeBelow, edges_from, AreNumbers, number_of}
 use Rattle.ap_safety.specs.Judged.{undecided_nodes, AreLeading}
 use Rattle.ap_safety.specs.Answers.{node_in, component_in, definite_in, IsSafe, IsJudged}
-use Rattle.ap_safety.proofs.MemberLemmas.{all_if}
-use Rattle.ap_safety.proofs.PlaceLemmas.{place_within, place_holds, in_keys, key_mentioned, mentioned_key}
-use Rattle.ap_safety.proofs.GraphLemmas.{mutual_iff, lower_below, walk_within}
-use Rattle.ap_safety.proofs.DependLemmas.{Numbers, models, head_mentioned}
+use Rattle.pred_graph.proofs.MemberLemmas.{all_if}
+use Rattle.pred_graph.proofs.PlaceLemmas.{place_within, place_holds, in_keys, key_mentioned, mentioned_key}
+use Rattle.pred_graph.proofs.GraphLemmas.{mutual_iff, lower_below, walk_within}
+use Rattle.pred_graph.proofs.DependLemmas.{Numbers, models, head_mentioned}
 use Rattle.ap_safety.proofs.TellLemmas.{definite_known, choice_in_head, edges_below, nodes_within}
 
 -- ---- places as numbers

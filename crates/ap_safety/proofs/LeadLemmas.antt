@@ -9,12 +9,12 @@ use Rattle.std.proofs.lemmas.List.Sums.{AllPass-from_list_all}
 use Rattle.definite.specs.declared.Rule.{Rule}
 use Rattle.definite.specs.declared.Derived.{Derived}
 use Rattle.definite.specs.Rules.{marked, obeys, IsDerived, IsRuleOf, Follows}
-use Rattle.ap_safety.specs.declared.graph.Edge.{Edge}
-use Rattle.ap_safety.specs.Walks.{IsWalk, Leads}
-use Rattle.ap_safety.specs.Graphs.{edge, HasEdge, IsEdgeBelow}
+use Rattle.pred_graph.specs.declared.graph.Edge.{Edge}
+use Rattle.pred_graph.specs.Walks.{IsWalk, Leads}
+use Rattle.pred_graph.specs.Graphs.{edge, HasEdge, IsEdgeBelow}
 use Rattle.ap_safety.specs.Judged.{edge_rule, fact_rule, AreLeading}
-use Rattle.ap_safety.proofs.MemberLemmas.{nothing_in, head_or_tail, in_map, from_map, from_any, all_if}
-use Rattle.ap_safety.proofs.WalkLemmas.{leads_here, leads_more}
+use Rattle.pred_graph.proofs.MemberLemmas.{nothing_in, head_or_tail, in_map, from_map, from_any, all_if}
+use Rattle.pred_graph.proofs.WalkLemmas.{leads_here, leads_more}
 
 abbrev rules_of : List Edge → List ℕ → List Rule
 rules_of edges nodes = map edge_rule edges ++ map fact_rule nodes

@@ -1,10 +1,3 @@
-pub mod WalkLemmas
-pub mod GraphLemmas
-pub mod MemberLemmas
-pub mod PlaceLemmas
-pub mod RowLemmas
-pub mod EdgeLemmas
-pub mod DependLemmas
 pub mod LeadLemmas
 pub mod TellLemmas
 pub mod JudgeLemmas

@@ -7,20 +7,20 @@ use Rattle.std.proofs.lemmas.List.Elements.{All-contains, Contains-append_cases,
 use Rattle.ap_syntax.specs.declared.rules.Rule.{Rule}
 use Rattle.ap_syntax.specs.declared.rules.HeadForm.{HeadForm}
 use Rattle.ap_syntax.specs.declared.rules.HeadForm.TheVariants.{One, Choice, Nothing}
-use Rattle.ap_safety.specs.declared.pred.Pred.{Pred}
-use Rattle.ap_safety.specs.declared.graph.Edge.{Edge}
-use Rattle.ap_safety.specs.Walks.{Leads}
-use Rattle.ap_safety.specs.Predicates.{pred_of, head_preds, choice_preds, Depends}
-use Rattle.ap_safety.specs.Components.{is_open_name, IsOpen, IsDecided, IsDefinite}
-use Rattle.ap_safety.specs.Tables.{place_in}
-use Rattle.ap_safety.specs.Graphs.{edge, HasEdge, IsEdgeBelow, edges_from, Orders, number_of}
+use Rattle.pred_graph.specs.declared.pred.Pred.{Pred}
+use Rattle.pred_graph.specs.declared.graph.Edge.{Edge}
+use Rattle.pred_graph.specs.Walks.{Leads}
+use Rattle.pred_graph.specs.Predicates.{pred_of, head_preds, choice_preds, Depends}
+use Rattle.pred_graph.specs.Components.{is_open_name, IsOpen, IsDecided, IsDefinite}
+use Rattle.pred_graph.specs.Tables.{place_in}
+use Rattle.pred_graph.specs.Graphs.{edge, HasEdge, IsEdgeBelow, edges_from, Orders, number_of}
 use Rattle.ap_safety.specs.Judged.{inner_nodes, choice_nodes, open_nodes, open_nodes_of, undecided_nodes}
-use Rattle.ap_safety.proofs.MemberLemmas.{nothing_in, at_head, head_or_tail, in_map, from_map, in_flat_map, from_flat_map, any_of, from_any, all_if}
-use Rattle.ap_safety.proofs.PlaceLemmas.{both, in_keys, place_within}
-use Rattle.ap_safety.proofs.EdgeLemmas.{Kind, kind_of}
-use Rattle.ap_safety.proofs.EdgeLemmas.Kind.{by_head, by_body, by_condition}
-use Rattle.ap_safety.proofs.DependLemmas.{Numbers, models, ends, head_mentioned}
-use Rattle.ap_safety.proofs.GraphLemmas.{Tells, Decided, definite_iff}
+use Rattle.pred_graph.proofs.MemberLemmas.{nothing_in, at_head, head_or_tail, in_map, from_map, in_flat_map, from_flat_map, any_of, from_any, all_if}
+use Rattle.pred_graph.proofs.PlaceLemmas.{both, in_keys, place_within}
+use Rattle.pred_graph.proofs.EdgeLemmas.{Kind, kind_of}
+use Rattle.pred_graph.proofs.EdgeLemmas.Kind.{by_head, by_body, by_condition}
+use Rattle.pred_graph.proofs.DependLemmas.{Numbers, models, ends, head_mentioned}
+use Rattle.pred_graph.proofs.GraphLemmas.{Tells, Decided, definite_iff}
 
 -- a choice has it in the head, or another program or a search decides it
 pub Bad : List Rule → Bool → Pred → Type 0

@@ -4,7 +4,7 @@ use Rattle.definite.specs.Rules.{marked}
 use Rattle.indexmap.specs.IndexSet.{insert_all}
 use Rattle.ap_syntax.specs.declared.rules.Rule.{Rule}
 use Rattle.ap_syntax.specs.declared.preferences.Preference.{Preference}
-use Rattle.ap_safety.specs.declared.pred.Pred.{Pred}
+use Rattle.pred_graph.specs.declared.pred.Pred.{Pred}
 use Rattle.ap_safety.specs.declared.safe.Safe.{Safe}
 use Rattle.ap_safety.specs.declared.fault.SafetyFault.{SafetyFault}
 use Rattle.ap_safety.specs.declared.fault.SafetyFault.TheVariants.{Unsafe, AggregateRecursion, Recursion, Memory}
@@ -13,11 +13,11 @@ use Rattle.ap_safety.specs.declared.fault.DomainFault.TheVariants as domain_faul
 use Rattle.ap_bindings.specs.Texts.{IsFirst, NoneFails}
 use Rattle.ap_pieces.specs.Pieces.{Source, sources}
 use Rattle.ap_bindings.specs.Bound.{IsUnsafe}
-use Rattle.ap_safety.specs.Predicates.{rule_preds}
-use Rattle.ap_safety.specs.Tables.{is_pred, place_in}
-use Rattle.ap_safety.specs.Graphs.{edges_from, number_of, AreNumbers}
+use Rattle.pred_graph.specs.Predicates.{rule_preds}
+use Rattle.pred_graph.specs.Tables.{is_pred, place_in}
+use Rattle.pred_graph.specs.Graphs.{edges_from, number_of, AreNumbers}
 use Rattle.ap_safety.specs.Judged.{undecided_nodes, AreLeading}
-use Rattle.ap_safety.specs.Components.{is_open_name, IsDefinite, IsOrderOf}
+use Rattle.pred_graph.specs.Components.{is_open_name, IsDefinite, IsOrderOf}
 use Rattle.ap_bindings.specs.Unsafe.{source_place, HasUnbound}
 use Rattle.ap_safety.specs.Conditions.{Domain, rule_place, domain_place, HasAggregateFault, HasRecursion, IsIndefinite, domains}
 

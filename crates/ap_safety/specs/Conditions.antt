@@ -7,11 +7,11 @@ use Rattle.ap_syntax.specs.declared.rules.ChoiceElement.{ChoiceElement}
 use Rattle.ap_syntax.specs.declared.rules.Rule.{Rule}
 use Rattle.ap_syntax.specs.declared.preferences.Element.{Element}
 use Rattle.ap_syntax.specs.declared.preferences.Preference.{Preference}
-use Rattle.ap_safety.specs.declared.pred.Pred.{Pred}
+use Rattle.pred_graph.specs.declared.pred.Pred.{Pred}
 use Rattle.ap_pieces.specs.Pieces.{rule_pieces, piece_occurrences}
 use Rattle.ap_bindings.specs.Texts.{Place}
-use Rattle.ap_safety.specs.Predicates.{head_preds, choice_elements, pred_of, preds_of, positives_of, item_preds, item_positives, aggregate_preds}
-use Rattle.ap_safety.specs.Components.{AreMutual, IsDefinite}
+use Rattle.pred_graph.specs.Predicates.{head_preds, choice_elements, pred_of, preds_of, positives_of, item_preds, item_positives, aggregate_preds}
+use Rattle.pred_graph.specs.Components.{AreMutual, IsDefinite}
 
 abbrev pub rule_place : Rule → Place
 rule_place rule = record { file = rule.file; at = rule.at }

@@ -4,12 +4,12 @@ use Rattle.std.specs.Prelude.{ℕ, Bool, ◌&&◌, ◌==◌, nat_lt, if◌then�
 use Rattle.ap_syntax.specs.declared.rules.Rule.{Rule}
 use Rattle.definite.specs.declared.Rule.{Rule as Derivation}
 use Rattle.definite.specs.Rules.{marked}
-use Rattle.ap_safety.specs.declared.pred.Pred.{Pred}
-use Rattle.ap_safety.specs.declared.graph.Edge.{Edge}
-use Rattle.ap_safety.specs.Walks.{Leads}
-use Rattle.ap_safety.specs.Predicates.{choice_preds}
-use Rattle.ap_safety.specs.Components.{is_open_name}
-use Rattle.ap_safety.specs.Graphs.{HasEdge, number_of}
+use Rattle.pred_graph.specs.declared.pred.Pred.{Pred}
+use Rattle.pred_graph.specs.declared.graph.Edge.{Edge}
+use Rattle.pred_graph.specs.Walks.{Leads}
+use Rattle.pred_graph.specs.Predicates.{choice_preds}
+use Rattle.pred_graph.specs.Components.{is_open_name}
+use Rattle.pred_graph.specs.Graphs.{HasEdge, number_of}
 
 -- ---- nodes of predicates that are not decided
 

@@ -1,8 +1,3 @@
-pub mod Walks
-pub mod Predicates
-pub mod Tables
-pub mod Graphs
-pub mod Components
 pub mod Judged
 pub mod Conditions
 pub mod Answers

@@ -3,7 +3,7 @@ use Rattle.std.specs.Prelude.{ℕ, ◌+◌, Bool, true, false, not, ◌&&◌, �
 use Rattle.std.specs.List.{list_any}
 use Rattle.ap_syntax.specs.declared.rules.Rule.{Rule}
 use Rattle.ap_syntax.specs.declared.rules.ChoiceElement.{ChoiceElement}
-use Rattle.ap_safety.specs.declared.pred.Pred.{Pred}
+use Rattle.pred_graph.specs.declared.pred.Pred.{Pred}
 use Rattle.ap_safety.specs.declared.safe.Safe.{Safe}
 use Rattle.ap_bindings.specs.declared.search.Failing.{Failing}
 use Rattle.ap_safety.specs.declared.conditions.RuleFault.{RuleFault}
@@ -11,9 +11,9 @@ use Rattle.ap_safety.specs.declared.conditions.RuleFault.TheVariants.{Aggregate,
 use Rattle.ap_bindings.specs.Texts.{first_failing}
 use Rattle.ap_pieces.specs.declared.variables.Occurrence.{Occurrence}
 use Rattle.ap_pieces.specs.Pieces.{rule_pieces, piece_occurrences}
-use Rattle.ap_safety.specs.Predicates.{pred_of, preds_of, positives_of, aggregate_preds, item_preds, item_positives, choice_elements}
+use Rattle.pred_graph.specs.Predicates.{pred_of, preds_of, positives_of, aggregate_preds, item_preds, item_positives, choice_elements}
 use Rattle.ap_safety.specs.Conditions.{Domain, HasAggregateFault, HasRecursion}
-use Rattle.ap_safety.specs.Graphs.{number_of}
+use Rattle.pred_graph.specs.Graphs.{number_of}
 use Rattle.ap_safety.specs.Answers.{node_in, definite_in}
 
 -- ---- variables

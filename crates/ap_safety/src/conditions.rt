@@ -2,18 +2,16 @@
 ghost use Rattle.std.specs.Prelude.{◌≡◌, flat_map, IfOk};
 ghost use Rattle.std.specs.List.{list_any};
 ghost use Rattle.ap_pieces.specs.Pieces.{piece_occurrences, mention_occurrences, side_occurrences};
-ghost use Rattle.ap_safety.specs.Predicates.{item_positives};
+ghost use Rattle.pred_graph.specs.Predicates.{item_positives};
 ghost use Rattle.ap_safety.specs.Tests.{is_some_occurrence, has_variable as is_with_variable, number_in as number_of_pred, rule_number as number_of_rule, meets as meets_number, meets_atom as meets_atom_of, has_aggregate_fault as is_aggregate_fault, base_recursion as is_base_recursion, kind_recursion as is_kind_recursion, has_recursion as is_recursion, has_fault as is_fault};
 
-use crate::numbers::number_at;
-use crate::pred::{Pred, pred_of};
-use crate::predicates::{
-    body_aggregates, body_positives, body_preds, choice_elements, condition_positives_of,
-};
 use crate::safe::Safe;
-use crate::table::place_of;
 use ap_pieces::{Mention, Occurrence, Piece, Side, pieces_of};
 use ap_syntax::{ChoiceElement, Rule};
+use pred_graph::{
+    Pred, body_aggregates, body_positives, body_preds, choice_elements, condition_positives_of,
+    number_at, place_of, pred_of,
+};
 use std::alloc::{AllocError, Global};
 
 /// A condition that rules can fail.

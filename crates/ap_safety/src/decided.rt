@@ -1,18 +1,14 @@
 // Which nodes lead to a predicate that is not decided.
 ghost use Rattle.std.specs.Prelude.{◌≡◌, ◌<◌, ◌++◌, flat_map, map, length, All, OnOk, IfOk};
-ghost use Rattle.ap_safety.specs.Components.{is_open_name};
-ghost use Rattle.ap_safety.specs.Tables.{place_in};
-ghost use Rattle.ap_safety.specs.Graphs.{IsEdgeBelow};
+ghost use Rattle.pred_graph.specs.Components.{is_open_name};
+ghost use Rattle.pred_graph.specs.Tables.{place_in};
+ghost use Rattle.pred_graph.specs.Graphs.{IsEdgeBelow};
 ghost use Rattle.ap_safety.specs.Judged.{inner_nodes, choice_nodes, open_nodes, undecided_nodes, edge_rule, fact_rule, AreLeading};
 
-use crate::graph::Edge;
-use crate::numbers::number_at;
-use crate::pred::Pred;
-use crate::predicates::choice_preds;
-use crate::table::place_of;
 use ap_syntax::{Rule, Text};
 use definite::{Rule as Derivation, least};
 use indexmap::IndexSet;
+use pred_graph::{Edge, Pred, choice_preds, number_at, place_of};
 use sqlite_items::Items;
 use std::alloc::{AllocError, Global};
 

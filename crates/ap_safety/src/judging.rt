@@ -3,13 +3,10 @@ ghost use Rattle.std.specs.Prelude.{◌≡◌, ◌+◌, length, IfOk};
 ghost use Rattle.ap_safety.specs.Answers.{IsJudged};
 
 use crate::decided::{leading, undecided};
-use crate::graph::edges_of;
-use crate::pred::Pred;
-use crate::rows::numbers_of;
 use crate::safe::Safe;
-use crate::table::table_of;
 use ap_syntax::Rule;
 use indexmap::IndexSet;
+use pred_graph::{Pred, edges_of, numbers_of, table_of};
 use std::alloc::{AllocError, Global};
 
 /// How many nodes the graph has.

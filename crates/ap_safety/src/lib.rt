@@ -7,18 +7,13 @@ mod decided;
 mod domains;
 mod fault;
 mod faults;
-mod graph;
 mod judging;
-mod numbers;
-mod pred;
-mod predicates;
-mod rows;
+mod marks;
 mod safe;
-mod table;
 #[cfg(test)]
 mod tests;
 
 pub use checking::{check, domain};
 pub use fault::{DomainFault, SafetyFault};
-pub use pred::Pred;
+pub use pred_graph::Pred;
 pub use safe::Safe;

@@ -3,10 +3,9 @@ ghost use Rattle.std.specs.Prelude.{◌≡◌};
 ghost use Rattle.ap_safety.specs.Answers.{component_in, definite_in};
 
 use crate::decided::is_open;
-use crate::numbers::{is_marked, number_at};
-use crate::pred::Pred;
-use crate::table::place_of;
+use crate::marks::is_marked;
 use indexmap::IndexSet;
+use pred_graph::{Pred, number_at, place_of};
 use sqlite_items::Items;
 
 /// The components of the predicates that rules mention, and which predicates are definite.

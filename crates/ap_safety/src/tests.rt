@@ -1,7 +1,10 @@
 // Programs whose answer is known.
-use crate::{Pred, SafetyFault, check};
-use ap_syntax::{Atom, BodyItem, ChoiceElement, HeadForm, Literal, Rule, Term, Text};
-use sqlite_items::Items;
+use crate::{DomainFault, Pred, Safe, SafetyFault, check, domain};
+use ap_syntax::{
+    AggElement, Atom, BodyItem, ChoiceElement, Function, Guard, HeadForm, Literal, Rel, Rule,
+    SumOp, Term, Text,
+};
+use sqlite_items::{Boxed, Items};
 use std::alloc::{AllocError, Global};
 use std::test::Fail;
 
@@ -17,6 +20,7 @@ struct Line {
 enum Want {
     Accepted,
     Unsafe(u32),
+    AggregateRecursion(u32),
     Recursion(u32),
 }
 
@@ -92,24 +96,52 @@ const UNBOUND: &[Line] = &[
     },
 ];
 
-fn atom(alloc: Global, name: &str, variable: bool) -> Result<Atom, AllocError> {
-    let mut terms = Items::new(alloc);
-    if variable {
-        terms.push(Term::Var(Text::new(alloc, "X")?))?;
-    }
+fn only<T: Drop>(alloc: Global, item: T) -> Result<Items<T>, AllocError> {
+    let mut items = Items::new(alloc);
+    items.push(item)?;
+    Ok(items)
+}
+
+/// `X`
+fn variable(alloc: Global) -> Result<Term, AllocError> {
+    Ok(Term::Var(Text::new(alloc, "X")?))
+}
+
+fn applied(alloc: Global, name: &str, terms: Items<Term>) -> Result<Atom, AllocError> {
     let name = Text::new(alloc, name)?;
     Ok(Atom { name, terms })
+}
+
+fn with_argument(alloc: Global, name: &str, argument: Term) -> Result<Atom, AllocError> {
+    applied(alloc, name, only(alloc, argument)?)
+}
+
+fn atom(alloc: Global, name: &str, of_x: bool) -> Result<Atom, AllocError> {
+    if of_x {
+        with_argument(alloc, name, variable(alloc)?)
+    } else {
+        applied(alloc, name, Items::new(alloc))
+    }
+}
+
+fn positive(alloc: Global, name: &str, of_x: bool) -> Result<Literal, AllocError> {
+    Ok(Literal::Pos(atom(alloc, name, of_x)?))
+}
+
+/// `name`, as an element of a choice.
+fn allowed(alloc: Global, name: &str, of_x: bool) -> Result<ChoiceElement, AllocError> {
+    let atom = atom(alloc, name, of_x)?;
+    let condition = Items::new(alloc);
+    Ok(ChoiceElement { atom, condition })
 }
 
 fn head(alloc: Global, line: &Line) -> Result<HeadForm, AllocError> {
     let mut elements = Items::new(alloc);
     for name in line.heads {
-        let atom = atom(alloc, name, line.variable)?;
         if !line.choice {
-            return Ok(HeadForm::One(atom));
+            return Ok(HeadForm::One(atom(alloc, name, line.variable)?));
         }
-        let condition = Items::new(alloc);
-        elements.push(ChoiceElement { atom, condition })?;
+        elements.push(allowed(alloc, name, line.variable)?)?;
     }
     Ok(HeadForm::Choice {
         left: None,
@@ -118,39 +150,63 @@ fn head(alloc: Global, line: &Line) -> Result<HeadForm, AllocError> {
     })
 }
 
+fn literal(
+    alloc: Global,
+    is_positive: bool,
+    name: &str,
+    of_x: bool,
+) -> Result<Literal, AllocError> {
+    let atom = atom(alloc, name, of_x)?;
+    if is_positive {
+        Ok(Literal::Pos(atom))
+    } else {
+        Ok(Literal::Not(atom))
+    }
+}
+
+fn body(alloc: Global, line: &Line) -> Result<Items<BodyItem>, AllocError> {
+    let mut body = Items::new(alloc);
+    for (is_positive, name) in line.body {
+        let literal = literal(alloc, *is_positive, name, line.variable)?;
+        body.push(BodyItem::Plain(literal))?;
+    }
+    Ok(body)
+}
+
+fn rule_of(alloc: Global, at: u32, line: &Line) -> Result<Rule, AllocError> {
+    let head = head(alloc, line)?;
+    let body = body(alloc, line)?;
+    Ok(Rule {
+        file: 1,
+        at,
+        head,
+        body,
+    })
+}
+
 fn rules(alloc: Global, lines: &[Line]) -> Result<Vec<Rule>, AllocError> {
     let mut rules = Vec::new(alloc);
     let mut at = 0;
     for line in lines {
-        let mut body = Items::new(alloc);
-        for (positive, name) in line.body {
-            let atom = atom(alloc, name, line.variable)?;
-            let literal = if *positive {
-                Literal::Pos(atom)
-            } else {
-                Literal::Not(atom)
-            };
-            body.push(BodyItem::Plain(literal))?;
-        }
-        rules.push(Rule {
-            file: 1,
-            at,
-            head: head(alloc, line)?,
-            body,
-        })?;
+        rules.push(rule_of(alloc, at, line)?)?;
         at = if at < 9 { at + 1 } else { 9 };
     }
     Ok(rules)
 }
 
-fn outcome(alloc: Global, lines: &[Line], base: bool) -> Result<Want, AllocError> {
-    let rules = rules(alloc, lines)?;
-    match check(alloc, rules.as_slice(), &[], base) {
+fn answer(alloc: Global, rules: &[Rule], base: bool) -> Result<Want, AllocError> {
+    match check(alloc, rules, &[], base) {
         Ok(_) => Ok(Want::Accepted),
         Err(SafetyFault::Unsafe { at, .. }) => Ok(Want::Unsafe(at)),
+        Err(SafetyFault::AggregateRecursion { at, .. }) => Ok(Want::AggregateRecursion(at)),
         Err(SafetyFault::Recursion { at, .. }) => Ok(Want::Recursion(at)),
-        Err(_) => Err(AllocError),
+        Err(SafetyFault::Memory) => Err(AllocError),
     }
+}
+
+fn outcome(alloc: Global, lines: &[Line], base: bool) -> Result<Want, AllocError> {
+    let rules = rules(alloc, lines)?;
+    answer(alloc, rules.as_slice(), base)
 }
 
 #[test]
@@ -171,25 +227,210 @@ fn worked_rows(rt: HostRuntime) -> Result<(), Fail> {
     Ok(())
 }
 
+/// `1 <=`
+fn at_least_one(alloc: Global) -> Result<Boxed<Guard>, AllocError> {
+    let guard = Guard {
+        rel: Rel::Le,
+        term: Term::Int(1),
+    };
+    Boxed::new(alloc, guard)
+}
+
+/// `X : q(X)`
+fn element_of_q(alloc: Global) -> Result<AggElement, AllocError> {
+    let terms = only(alloc, variable(alloc)?)?;
+    let condition = only(alloc, positive(alloc, "q", true)?)?;
+    Ok(AggElement { terms, condition })
+}
+
+/// `1 <= #count{X : q(X)}`
+fn count_of_q(alloc: Global) -> Result<BodyItem, AllocError> {
+    let left = at_least_one(alloc)?;
+    let elements = only(alloc, element_of_q(alloc)?)?;
+    Ok(BodyItem::Agg {
+        negated: false,
+        left: Some(left),
+        function: Function::Count,
+        elements,
+        right: None,
+    })
+}
+
+/// `head :- item.`
+fn rule(alloc: Global, at: u32, head: Atom, item: BodyItem) -> Result<Rule, AllocError> {
+    let body = only(alloc, item)?;
+    Ok(Rule {
+        file: 1,
+        at,
+        head: HeadForm::One(head),
+        body,
+    })
+}
+
+/// `head :- literal.`
+fn plain(alloc: Global, at: u32, head: Atom, literal: Literal) -> Result<Rule, AllocError> {
+    rule(alloc, at, head, BodyItem::Plain(literal))
+}
+
+fn pair(alloc: Global, one: Rule, other: Rule) -> Result<Vec<Rule>, AllocError> {
+    let mut rules = Vec::new(alloc);
+    rules.push(one)?;
+    rules.push(other)?;
+    Ok(rules)
+}
+
+/// `a :- 1 <= #count{X : q(X)}.`
+fn counted(alloc: Global) -> Result<Rule, AllocError> {
+    let head = atom(alloc, "a", false)?;
+    rule(alloc, 0, head, count_of_q(alloc)?)
+}
+
+/// `q(1) :- a.`
+fn back(alloc: Global) -> Result<Rule, AllocError> {
+    let head = with_argument(alloc, "q", Term::Int(1))?;
+    plain(alloc, 29, head, positive(alloc, "a", false)?)
+}
+
+/// `a :- 1 <= #count{X : q(X)}. q(1) :- a.`
+fn through_an_aggregate(alloc: Global) -> Result<Vec<Rule>, AllocError> {
+    let counted = counted(alloc)?;
+    pair(alloc, counted, back(alloc)?)
+}
+
+#[test]
+fn an_aggregate_through_its_head(rt: HostRuntime) -> Result<(), Fail> {
+    let alloc = rt.alloc();
+    let rules = through_an_aggregate(alloc)?;
+    for (base, want) in [
+        (true, Want::AggregateRecursion(0)),
+        (false, Want::Recursion(0)),
+    ] {
+        assert_eq!(rt; answer(alloc, rules.as_slice(), base)?, want);
+    }
+    Ok(())
+}
+
+/// `X+1`
+fn next(alloc: Global) -> Result<Term, AllocError> {
+    let left = Boxed::new(alloc, variable(alloc)?)?;
+    Ok(Term::Sum(left, SumOp::Plus, Boxed::new(alloc, Term::Int(1))?))
+}
+
+/// `p(0).`
+fn first(alloc: Global) -> Result<Rule, AllocError> {
+    let head = with_argument(alloc, "p", Term::Int(0))?;
+    Ok(Rule {
+        file: 1,
+        at: 0,
+        head: HeadForm::One(head),
+        body: Items::new(alloc),
+    })
+}
+
+/// `p(X+1) :- source(X).`
+fn successor(alloc: Global, source: &str) -> Result<Rule, AllocError> {
+    let head = with_argument(alloc, "p", next(alloc)?)?;
+    plain(alloc, 6, head, positive(alloc, source, true)?)
+}
+
+/// `p(0). p(X+1) :- source(X).`
+fn successors_of(alloc: Global, source: &str) -> Result<Vec<Rule>, AllocError> {
+    let first = first(alloc)?;
+    pair(alloc, first, successor(alloc, source)?)
+}
+
+#[test]
+fn successors(rt: HostRuntime) -> Result<(), Fail> {
+    let alloc = rt.alloc();
+    for (source, want) in [("p", Want::Recursion(6)), ("d", Want::Accepted)] {
+        let rules = successors_of(alloc, source)?;
+        assert_eq!(rt; answer(alloc, rules.as_slice(), true)?, want);
+    }
+    Ok(())
+}
+
+/// `{name}.`
+fn choice(alloc: Global, name: &str) -> Result<Rule, AllocError> {
+    let elements = only(alloc, allowed(alloc, name, false)?)?;
+    let head = HeadForm::Choice {
+        left: None,
+        elements,
+        right: None,
+    };
+    Ok(Rule {
+        file: 1,
+        at: 0,
+        head,
+        body: Items::new(alloc),
+    })
+}
+
+/// `b : c`
+fn b_where_c(alloc: Global) -> Result<BodyItem, AllocError> {
+    let literal = Boxed::new(alloc, positive(alloc, "b", false)?)?;
+    let condition = only(alloc, positive(alloc, "c", false)?)?;
+    Ok(BodyItem::All {
+        at: 10,
+        literal,
+        condition,
+    })
+}
+
+/// `a :- b : c.`
+fn conditional(alloc: Global) -> Result<Rule, AllocError> {
+    let head = atom(alloc, "a", false)?;
+    rule(alloc, 5, head, b_where_c(alloc)?)
+}
+
+/// `{name}. a :- b : c.`
+fn chosen(alloc: Global, name: &str) -> Result<Vec<Rule>, AllocError> {
+    let choice = choice(alloc, name)?;
+    pair(alloc, choice, conditional(alloc)?)
+}
+
+/// What `domain` answers of safe rules.
+fn domain_of(alloc: Global, rules: &[Rule]) -> Result<Result<(), DomainFault>, AllocError> {
+    match check(alloc, rules, &[], true) {
+        Ok(safe) => Ok(domain(alloc, rules, &[], &safe)),
+        Err(_) => Err(AllocError),
+    }
+}
+
+/// `{d}. a :- b : c.` has definite conditions alone, and `{c}. a :- b : c.` has not.
+#[test]
+fn conditions_over_choices(rt: HostRuntime) -> Result<(), Fail> {
+    let alloc = rt.alloc();
+    let not_domain = DomainFault::NotDomain { file: 1, at: 10 };
+    for (name, want) in [("d", Ok(())), ("c", Err(not_domain))] {
+        let rules = chosen(alloc, name)?;
+        assert_eq!(rt; domain_of(alloc, rules.as_slice())?, want);
+    }
+    Ok(())
+}
+
+fn pred(alloc: Global, name: &str) -> Result<Pred, AllocError> {
+    Ok(Pred {
+        name: Text::new(alloc, name)?,
+        arity: 0,
+    })
+}
+
+/// What is known of `{a; b} :- not a.`
+fn known_of_two_heads(alloc: Global) -> Result<Safe, AllocError> {
+    let rules = rules(alloc, TWO_HEADS)?;
+    match check(alloc, rules.as_slice(), &[], true) {
+        Ok(safe) => Ok(safe),
+        Err(_) => Err(AllocError),
+    }
+}
+
 #[test]
 fn components_of_a_choice(rt: HostRuntime) -> Result<(), Fail> {
     let alloc = rt.alloc();
-    let rules = rules(alloc, TWO_HEADS)?;
-    let Ok(safe) = check(alloc, rules.as_slice(), &[], true) else {
-        return Err(Fail::from(AllocError));
-    };
-    let a = Pred {
-        name: Text::new(alloc, "a")?,
-        arity: 0,
-    };
-    let b = Pred {
-        name: Text::new(alloc, "b")?,
-        arity: 0,
-    };
-    let c = Pred {
-        name: Text::new(alloc, "c")?,
-        arity: 0,
-    };
+    let safe = known_of_two_heads(alloc)?;
+    let a = pred(alloc, "a")?;
+    let b = pred(alloc, "b")?;
+    let c = pred(alloc, "c")?;
     assert!(rt; safe.component(&a) < safe.component(&b));
     assert_eq!(rt; safe.component(&c), 0);
     assert!(rt; !safe.is_definite(&b));

@@ -34,8 +34,8 @@ impl Literal {
             Literal::Pos(atom) => Ok(Literal::Pos(atom.copy(alloc)?)),
             Literal::Not(atom) => Ok(Literal::Not(atom.copy(alloc)?)),
             Literal::Compare(left, rel, right) => {
-                let left = left.copy(alloc)?;
-                Ok(Literal::Compare(left, *rel, right.copy(alloc)?))
+                let left = copy_boxed(alloc, left)?;
+                Ok(Literal::Compare(left, *rel, copy_boxed(alloc, right)?))
             }
         }
     }
@@ -83,9 +83,9 @@ fn copy_boxed(alloc: Global, term: &Boxed<Term>) -> Result<Boxed<Term>, AllocErr
 pub(crate) fn copy_terms(alloc: Global, terms: &[Term]) -> Result<Items<Term>, AllocError>
     ensures { IfOk result (λ ts. ts ≡ terms.now) }
 {
-    let mut copies = Items::new(alloc);
+    let mut copies = Vec::with_capacity(alloc, terms.len())?;
     for term in terms {
         copies.push(copy_term(alloc, term)?)?;
     }
-    Ok(copies)
+    Ok(Items::from_vec(copies))
 }

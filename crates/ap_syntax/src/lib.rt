@@ -3,6 +3,7 @@
 
 mod copies;
 mod equality;
+mod lists;
 mod preferences;
 mod printed;
 mod printed_lists;
@@ -16,6 +17,7 @@ pub mod small;
 mod terms;
 mod text;
 
+pub use lists::fitted;
 pub use preferences::{Element, Formula, Preference, Ranked, Target};
 pub use printed::print_program;
 pub use programs::{PartKind, Program, Statement};

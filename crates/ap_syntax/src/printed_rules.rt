@@ -8,6 +8,7 @@ use crate::printed_lists::{Canonical, push_braced};
 use crate::printed_terms::{push_atom, push_literals, push_spaced, push_term, push_terms};
 use crate::rules::{AggElement, BodyItem, ChoiceElement, Function, Guard, HeadForm, Rule};
 use crate::terms::Literal;
+use sqlite_items::Boxed;
 use std::alloc::AllocError;
 
 /// Appends a condition behind its colon, and nothing where there is none.
@@ -22,12 +23,13 @@ pub(crate) fn push_condition(condition: &[Literal], out: &mut String) -> Result<
 }
 
 /// Appends a guard before braces.
-fn push_left(guard: &Option<Guard>, out: &mut String) -> Result<(), AllocError>
+fn push_left(guard: &Option<Boxed<Guard>>, out: &mut String) -> Result<(), AllocError>
     ensures { OnOk result (string_bytes out.new ≡ string_bytes out.old ++ text_of (left_pieces guard.now)) }
 {
     match guard {
         None => Ok(()),
         Some(guard) => {
+            let guard = guard.get();
             push_term(&guard.term, out)?;
             push_spaced(guard.rel.sign(), out)
         }
@@ -35,12 +37,13 @@ fn push_left(guard: &Option<Guard>, out: &mut String) -> Result<(), AllocError>
 }
 
 /// Appends a guard behind braces.
-fn push_right(guard: &Option<Guard>, out: &mut String) -> Result<(), AllocError>
+fn push_right(guard: &Option<Boxed<Guard>>, out: &mut String) -> Result<(), AllocError>
     ensures { OnOk result (string_bytes out.new ≡ string_bytes out.old ++ text_of (right_pieces guard.now)) }
 {
     match guard {
         None => Ok(()),
         Some(guard) => {
+            let guard = guard.get();
             push_spaced(guard.rel.sign(), out)?;
             push_term(&guard.term, out)
         }
@@ -79,10 +82,10 @@ impl Function {
 
 /// Appends an aggregate that is not negated.
 fn push_aggregate(
-    left: &Option<Guard>,
+    left: &Option<Boxed<Guard>>,
     function: Function,
     elements: &[AggElement],
-    right: &Option<Guard>,
+    right: &Option<Boxed<Guard>>,
     out: &mut String,
 ) -> Result<(), AllocError>
     ensures { OnOk result (string_bytes out.new ≡ string_bytes out.old
@@ -116,7 +119,7 @@ fn push_item(item: &BodyItem, out: &mut String) -> Result<(), AllocError>
             literal,
             condition,
         } => {
-            literal.push(out)?;
+            literal.get().push(out)?;
             out.push_str(" : ")?;
             push_literals(condition.as_slice(), out)
         }

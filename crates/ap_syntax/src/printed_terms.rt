@@ -219,9 +219,9 @@ impl Canonical for Literal {
                 push_atom(atom, out)
             }
             Literal::Compare(left, rel, right) => {
-                push_term(left, out)?;
+                push_term(left.get(), out)?;
                 push_spaced(rel.sign(), out)?;
-                push_term(right, out)
+                push_term(right.get(), out)
             }
         }
     }

@@ -4,7 +4,7 @@ ghost use Rattle.std.specs.Prelude.{◌≡◌, IfOk};
 use crate::copies::copy_terms;
 use crate::rules::{AggElement, BodyItem, ChoiceElement, Guard, HeadForm, Rule};
 use crate::terms::Literal;
-use sqlite_items::Items;
+use sqlite_items::{Boxed, Items};
 use std::alloc::{AllocError, Global};
 
 /// What stands in lists of a rule.
@@ -45,7 +45,7 @@ impl Part for BodyItem {
                 literal,
                 condition,
             } => {
-                let literal = literal.copy(alloc)?;
+                let literal = Boxed::new(alloc, literal.get().copy(alloc)?)?;
                 let condition = copy_parts(alloc, condition.as_slice())?;
                 Ok(BodyItem::All {
                     at: *at,
@@ -114,14 +114,26 @@ fn copy_head(alloc: Global, head: &HeadForm) -> Result<HeadForm, AllocError>
     }
 }
 
-fn copy_guard(alloc: Global, guard: &Option<Guard>) -> Result<Option<Guard>, AllocError>
+impl Guard {
+    /// An equal guard.
+    fn copy(&self, alloc: Global) -> Result<Guard, AllocError>
+        ensures { IfOk result (λ g. g ≡ self.now) }
+    {
+        Ok(Guard {
+            rel: self.rel,
+            term: self.term.copy(alloc)?,
+        })
+    }
+}
+
+fn copy_guard(
+    alloc: Global,
+    guard: &Option<Boxed<Guard>>,
+) -> Result<Option<Boxed<Guard>>, AllocError>
     ensures { IfOk result (λ g. g ≡ guard.now) }
 {
     match guard {
-        Some(guard) => Ok(Some(Guard {
-            rel: guard.rel,
-            term: guard.term.copy(alloc)?,
-        })),
+        Some(guard) => Ok(Some(Boxed::new(alloc, guard.get().copy(alloc)?)?)),
         None => Ok(None),
     }
 }
@@ -129,9 +141,9 @@ fn copy_guard(alloc: Global, guard: &Option<Guard>) -> Result<Option<Guard>, All
 fn copy_parts<T: Part>(alloc: Global, parts: &[T]) -> Result<Items<T>, AllocError>
     ensures { IfOk result (λ ps. ps ≡ parts.now) }
 {
-    let mut copies = Items::new(alloc);
+    let mut copies = Vec::with_capacity(alloc, parts.len())?;
     for part in parts {
         copies.push(part.copied(alloc)?)?;
     }
-    Ok(copies)
+    Ok(Items::from_vec(copies))
 }

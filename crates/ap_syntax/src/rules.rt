@@ -1,6 +1,6 @@
 // Rules: heads, bodies, choices and aggregates.
 use crate::terms::{Atom, Literal, Rel, Term};
-use sqlite_items::Items;
+use sqlite_items::{Boxed, Items};
 
 /// One side of an aggregate or of a choice, to which its number is compared. The relation and the term stand as they are
 /// written: on the left the term is before the relation, on the right behind it. A guard without a sign reads `<=`.
@@ -39,7 +39,7 @@ pub enum Function {
     Sum,
 }
 
-/// A part of a body.
+/// A part of a body. What few of them have is boxed, so that a plain literal is small.
 #[derive(Debug, Drop)]
 pub enum BodyItem {
     /// A literal.
@@ -49,7 +49,7 @@ pub enum BodyItem {
         /// The byte of the text, from 0, at which its first token begins.
         at: u32,
         /// The literal before the colon.
-        literal: Literal,
+        literal: Boxed<Literal>,
         /// The conjunction behind the colon; the empty one is true.
         condition: Items<Literal>,
     },
@@ -58,17 +58,17 @@ pub enum BodyItem {
         /// Whether `not` stands before it.
         negated: bool,
         /// The guard on the left.
-        left: Option<Guard>,
+        left: Option<Boxed<Guard>>,
         /// What is computed.
         function: Function,
         /// The elements between the braces.
         elements: Items<AggElement>,
         /// The guard on the right.
-        right: Option<Guard>,
+        right: Option<Boxed<Guard>>,
     },
 }
 
-/// What a rule derives.
+/// What a rule derives. The guards of a choice are boxed, so that a rule with an atom is small.
 #[derive(Debug, Drop)]
 pub enum HeadForm {
     /// An atom.
@@ -76,11 +76,11 @@ pub enum HeadForm {
     /// A choice: any of the atoms of its elements, as many as its guards admit.
     Choice {
         /// The guard on the left.
-        left: Option<Guard>,
+        left: Option<Boxed<Guard>>,
         /// The elements between the braces.
         elements: Items<ChoiceElement>,
         /// The guard on the right.
-        right: Option<Guard>,
+        right: Option<Boxed<Guard>>,
     },
     /// Nothing: the rule is a constraint, whose body may not hold.
     Nothing,

@@ -75,7 +75,7 @@ pub struct Atom {
     pub terms: Items<Term>,
 }
 
-/// An atom, an atom under default negation, or a comparison.
+/// An atom, an atom under default negation, or a comparison. The terms of a comparison are boxed, so that a plain literal is small.
 #[derive(Debug, Drop)]
 pub enum Literal {
     /// An atom.
@@ -83,5 +83,5 @@ pub enum Literal {
     /// `not` and an atom.
     Not(Atom),
     /// A comparison of two terms.
-    Compare(Term, Rel, Term),
+    Compare(Boxed<Term>, Rel, Boxed<Term>),
 }

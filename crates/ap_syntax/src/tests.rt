@@ -39,8 +39,9 @@ fn copies_a_rule(rt: HostRuntime) -> Result<(), Fail> {
     let alloc = rt.alloc();
     // p(1 + _) :- 1 != 1 + 1.
     let mut body = Vec::new(alloc);
-    let right = sum(alloc, Term::Int(1))?;
-    body.push(BodyItem::Plain(Literal::Compare(Term::Int(1), Rel::Ne, right)))?;
+    let left = Boxed::new(alloc, Term::Int(1))?;
+    let right = Boxed::new(alloc, sum(alloc, Term::Int(1))?)?;
+    body.push(BodyItem::Plain(Literal::Compare(left, Rel::Ne, right)))?;
     let rule = Rule {
         file: 1,
         at: 7,
@@ -126,6 +127,11 @@ fn literals(alloc: Global) -> Result<Items<Literal>, AllocError> {
     Ok(Items::from_vec(literals))
 }
 
+/// A guard.
+fn guard(alloc: Global, rel: Rel, term: Term) -> Result<Option<Boxed<Guard>>, AllocError> {
+    Ok(Some(Boxed::new(alloc, Guard { rel, term })?))
+}
+
 /// `1 <= {p(X) : q(X), not r(X)} != ()`
 fn choice(alloc: Global) -> Result<HeadForm, AllocError> {
     let mut elements = Vec::new(alloc);
@@ -133,15 +139,9 @@ fn choice(alloc: Global) -> Result<HeadForm, AllocError> {
     let condition = literals(alloc)?;
     elements.push(ChoiceElement { atom, condition })?;
     Ok(HeadForm::Choice {
-        left: Some(Guard {
-            rel: Rel::Le,
-            term: Term::Int(1),
-        }),
+        left: guard(alloc, Rel::Le, Term::Int(1))?,
         elements: Items::from_vec(elements),
-        right: Some(Guard {
-            rel: Rel::Ne,
-            term: Term::Tuple(Items::new(alloc)),
-        }),
+        right: guard(alloc, Rel::Ne, Term::Tuple(Items::new(alloc)))?,
     })
 }
 
@@ -150,7 +150,7 @@ fn parts(alloc: Global) -> Result<Items<BodyItem>, AllocError> {
     let mut body = Vec::new(alloc);
     body.push(BodyItem::All {
         at: 0,
-        literal: Literal::Pos(of_x(alloc, "q")?),
+        literal: Boxed::new(alloc, Literal::Pos(of_x(alloc, "q")?))?,
         condition: literals(alloc)?,
     })?;
     body.push(BodyItem::Plain(Literal::Not(of_x(alloc, "r")?)))?;

@@ -9,6 +9,8 @@ use Rattle.ap_grammar.specs.Lexemes.{Lexeme, decimal}
 use Rattle.ap_grammar.specs.Values.{Value}
 use Rattle.ap_grammar.specs.Factored.{Rhs, factored}
 use Rattle.ap_grammar.specs.Tables.{tables}
+use Rattle.ap_lexemes.specs.Lexemes.{lexeme_of}
+use Rattle.ap_lexemes.specs.declared.lexeme.Lexeme.{Lexeme as Held}
 use Rattle.ap_lexemes.specs.Quotes.{BeginsWithQuote}
 use Rattle.literal_parse.specs.declared.cursor.Place.{Place}
 use Rattle.literal_parse.specs.declared.error.Stop.{Stop}
@@ -45,6 +47,11 @@ pub record IsNext (k : Terminal) (old new : List Lexeme) : Type 0 where
 abbrev pub Eats : Terminal → List Lexeme → List Lexeme → Bool → Type 0
 Eats k old new true = IsNext k old new
 Eats k old new false = (new ≡ old) × Lacks k old
+
+-- it is this one, as the code holds it
+abbrev pub Holds : Terminal → List Lexeme → List Lexeme → Option Held → Type 0
+Holds k old new (Some token) = (old ≡ lexeme_of token ∷ new) × (token.terminal ≡ k)
+Holds k old new None = (new ≡ old) × Lacks k old
 
 abbrev pub Spells : Terminal → List Lexeme → List Lexeme → Option (Bor (List ℕ)) → Type 0
 Spells k old new (Some s) = (n : IsNext k old new) × (s.now ≡ n.token.bytes)

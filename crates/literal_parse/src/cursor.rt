@@ -1,15 +1,15 @@
 // The tokens that are not read yet.
-ghost use Rattle.std.specs.Prelude.{◌≡◌, ◌∷◌, [], length, ◌≤◌, map};
+ghost use Rattle.std.specs.Prelude.{◌≡◌, ◌∷◌, [], length, ◌≤◌};
 ghost use Rattle.grammar.specs.Fault.{next_kind};
 ghost use Rattle.grammar.specs.Form.Form.{Tok};
 ghost use Rattle.ap_grammar.specs.Grammar.{Name as names};
 ghost use Rattle.ap_grammar.specs.Factored.{call, factored};
-ghost use Rattle.ap_lexemes.specs.Lexemes.{lexeme_of};
-ghost use Rattle.literal_parse.specs.Reads.{Reads, Eats, Names, Numbers, Quotes, Spells, Tells, behind, IsAny, IsName, IsPlace};
+ghost use Rattle.ap_lexemes.specs.Listing.{listed};
+ghost use Rattle.literal_parse.specs.Reads.{Reads, Eats, Holds, Names, Numbers, Quotes, Spells, Tells, behind, IsAny, IsName, IsPlace};
 
 use crate::error::Stop;
 use ap_grammar::Terminal;
-use ap_lexemes::Lexeme;
+use ap_lexemes::{Lexeme, Lexemes};
 use ap_syntax::Text;
 use std::alloc::Global;
 use std::marker::Model;
@@ -26,25 +26,34 @@ pub struct Place {
 /// The tokens that are not read yet.
 #[derive(Drop)]
 pub struct Cursor<'a> {
-    rest: &'a [Lexeme<'a>],
+    rest: Lexemes<'a>,
+    // The first of them, which is looked at many times.
+    next: Option<Lexeme<'a>>,
 }
 
 impl<'a> Model for Cursor<'a> {
-    ghost use Rattle.std.specs.Prelude.{List, map};
+    ghost use Rattle.std.specs.Prelude.{◌≡◌, List, slice_get};
+    ghost use Rattle.std.specs.Option.{option_map};
     ghost use Rattle.ap_grammar.specs.Lexemes.{Lexeme};
     ghost use Rattle.ap_lexemes.specs.Lexemes.{lexeme_of};
+    ghost use Rattle.ap_lexemes.specs.Listing.{listed};
 
     ghost Value = { List Lexeme };
 
-    ghost view = { λ c. map lexeme_of c.rest.now };
+    ghost view = { λ c. listed c.rest };
+
+    ghost invariant = { λ c. option_map lexeme_of c.next ≡ slice_get (listed c.rest) 0 };
 }
 
 impl<'a> Cursor<'a> {
     /// All of these tokens.
-    pub fn new(lexemes: &'a [Lexeme<'a>]) -> Cursor<'a>
-        ensures { result ≡ map lexeme_of lexemes.now }
+    pub fn new(lexemes: Lexemes<'a>) -> Cursor<'a>
+        ensures { result ≡ listed lexemes.entry }
     {
-        Cursor { rest: lexemes }
+        Cursor {
+            rest: lexemes,
+            next: lexemes.get(0),
+        }
     }
 
     /// How many tokens are left.
@@ -58,8 +67,8 @@ impl<'a> Cursor<'a> {
     pub fn place(&self) -> Place
         ensures { IsPlace self.now result }
     {
-        match self.rest.split_first() {
-            Some((token, _)) => Place {
+        match self.next {
+            Some(token) => Place {
                 file: token.file,
                 at: token.at,
             },
@@ -71,8 +80,8 @@ impl<'a> Cursor<'a> {
     pub fn peek(&self) -> Option<Terminal>
         ensures { result ≡ next_kind factored self.now }
     {
-        match self.rest.split_first() {
-            Some((token, _)) => Some(token.terminal),
+        match self.next {
+            Some(token) => Some(token.terminal),
             None => None,
         }
     }
@@ -81,18 +90,31 @@ impl<'a> Cursor<'a> {
     pub fn advance(&mut self)
         ensures { self.new ≡ behind self.old }
     {
-        if let [_, rest @ ..] = self.rest {
-            self.rest = rest;
-        }
+        *self = Cursor::new(self.rest.rest());
     }
 
     /// Whether a token of this kind comes next.
     pub fn sees(&self, wanted: Terminal) -> bool
         ensures { Tells (Tok wanted) self.now result }
     {
-        match self.rest.split_first() {
-            Some((token, _)) => token.terminal == wanted,
+        match self.next {
+            Some(token) => token.terminal == wanted,
             None => false,
+        }
+    }
+
+    // Reads a token of this kind, if one comes next.
+    fn read(&mut self, wanted: Terminal) -> Option<Lexeme<'a>>
+        ensures { Holds wanted self.old self.new result }
+    {
+        let Some(token) = self.next else {
+            return None;
+        };
+        if token.terminal == wanted {
+            self.advance();
+            Some(token)
+        } else {
+            None
         }
     }
 
@@ -100,14 +122,9 @@ impl<'a> Cursor<'a> {
     pub fn take(&mut self, wanted: Terminal) -> Option<&'a str>
         ensures { Spells wanted self.old self.new result }
     {
-        let [token, rest @ ..] = self.rest else {
-            return None;
-        };
-        if token.terminal == wanted {
-            self.rest = rest;
-            Some(token.spelling)
-        } else {
-            None
+        match self.read(wanted) {
+            Some(token) => Some(token.spelling),
+            None => None,
         }
     }
 
@@ -115,14 +132,9 @@ impl<'a> Cursor<'a> {
     pub fn number(&mut self) -> Option<u32>
         ensures { Numbers self.old self.new result }
     {
-        let [token, rest @ ..] = self.rest else {
-            return None;
-        };
-        if token.terminal == Terminal::Number {
-            self.rest = rest;
-            Some(token.number)
-        } else {
-            None
+        match self.read(Terminal::Number) {
+            Some(token) => Some(token.number),
+            None => None,
         }
     }
 
@@ -130,14 +142,9 @@ impl<'a> Cursor<'a> {
     pub fn quoted(&mut self) -> Option<&'a str>
         ensures { Quotes self.old self.new result }
     {
-        let [token, rest @ ..] = self.rest else {
-            return None;
-        };
-        if token.terminal == Terminal::String {
-            self.rest = rest;
-            Some(token.spelling)
-        } else {
-            None
+        match self.read(Terminal::String) {
+            Some(token) => Some(token.spelling),
+            None => None,
         }
     }
 

@@ -13,8 +13,8 @@ use crate::cursor::Cursor;
 use crate::error::Stop;
 use crate::terms::{read_arguments, read_term};
 use ap_grammar::Terminal;
-use ap_syntax::{Atom, Literal, Rel};
-use sqlite_items::Items;
+use ap_syntax::{Atom, Literal, Rel, fitted};
+use sqlite_items::{Boxed, Items};
 use std::alloc::Global;
 
 // The relation of a sign.
@@ -103,7 +103,9 @@ pub fn read_literal(alloc: Global, tokens: &mut Cursor<'_>) -> Result<Literal, S
     let left = read_term(alloc, tokens)?;
     if let Some(rel) = relation(tokens) {
         let right = read_term(alloc, tokens)?;
-        return Ok(Literal::Compare(left.into_term(), rel, right.into_term()));
+        let left = Boxed::new(alloc, left.into_term())?;
+        let right = Boxed::new(alloc, right.into_term())?;
+        return Ok(Literal::Compare(left, rel, right));
     }
     let bare = left.into_atom()?;
     Ok(Literal::Pos(bare))
@@ -115,13 +117,13 @@ pub fn read_literals(alloc: Global, tokens: &mut Cursor<'_>) -> Result<Items<Lit
     ensures shorter { length tokens.new ≤ length tokens.old }
 {
     let first = read_literal(alloc, tokens)?;
-    let mut literals = Items::new(alloc);
+    let mut literals = Vec::new(alloc);
     literals.push(first)?;
     'commas: while tokens.eat(Terminal::Comma) {
         let next = read_literal(alloc, tokens)?;
         literals.push(next)?;
     }
-    Ok(literals)
+    Ok(fitted(literals))
 }
 
 /// A condition: a colon, and literals or none.

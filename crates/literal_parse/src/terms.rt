@@ -15,7 +15,7 @@ use crate::error::Stop;
 use crate::operand::Operand;
 use crate::strings::string;
 use ap_grammar::Terminal;
-use ap_syntax::{Atom, ProductOp, SumOp, Term, Text};
+use ap_syntax::{Atom, ProductOp, SumOp, Term, Text, fitted};
 use sqlite_items::{Boxed, Items};
 use std::alloc::Global;
 
@@ -147,10 +147,10 @@ pub fn read_tuple(alloc: Global, tokens: &mut Cursor<'_>, first: Term) -> Result
     ensures read { Reads behind_comma (IsTuple first) tokens.old tokens.new result }
     ensures shorter { length tokens.new ≤ length tokens.old }
 {
-    let mut members = Items::new(alloc);
+    let mut members = Vec::new(alloc);
     members.push(first)?;
     if tokens.eat(Terminal::Close) {
-        return Ok(Term::Tuple(members));
+        return Ok(Term::Tuple(fitted(members)));
     }
     let all = read_terms(alloc, tokens, members)?;
     tokens.expect(Terminal::Close)?;
@@ -166,7 +166,7 @@ pub fn read_arguments(alloc: Global, tokens: &mut Cursor<'_>) -> Result<Items<Te
     if !tokens.eat(Terminal::Open) {
         return Ok(Items::new(alloc));
     }
-    let terms = read_terms(alloc, tokens, Items::new(alloc))?;
+    let terms = read_terms(alloc, tokens, Vec::new(alloc))?;
     tokens.expect(Terminal::Close)?;
     Ok(terms)
 }
@@ -176,9 +176,9 @@ pub fn read_arguments(alloc: Global, tokens: &mut Cursor<'_>) -> Result<Items<Te
 pub fn read_terms(
     alloc: Global,
     tokens: &mut Cursor<'_>,
-    mut terms: Items<Term>,
+    mut terms: Vec<Term>,
 ) -> Result<Items<Term>, Stop>
-    ensures read { Reads (many (call names.Term) Comma) (IsTerms terms) tokens.old tokens.new result }
+    ensures read { Reads (many (call names.Term) Comma) (IsTerms terms.items) tokens.old tokens.new result }
     ensures shorter { length tokens.new ≤ length tokens.old }
 {
     let first = read_term(alloc, tokens)?;
@@ -187,7 +187,7 @@ pub fn read_terms(
         let next = read_term(alloc, tokens)?;
         terms.push(next.into_term())?;
     }
-    Ok(terms)
+    Ok(fitted(terms))
 }
 
 // Reads a number, a string, a variable or `_`, if one comes next.

@@ -12,8 +12,8 @@ ghost use Rattle.pref_parse.specs.Elements.{IsElement, IsElements, IsOptionalGiv
 
 use crate::ranked::read_ranked;
 use ap_grammar::Terminal;
+use ap_syntax::{Element, Literal, Ranked, fitted};
 use literal_parse::{Cursor, Stop, read_literals};
-use ap_syntax::{Element, Literal, Ranked};
 use sqlite_items::Items;
 use std::alloc::Global;
 
@@ -23,13 +23,13 @@ fn read_ranks(alloc: Global, tokens: &mut Cursor<'_>) -> Result<Items<Ranked>, S
     ensures shorter { length tokens.new ≤ length tokens.old }
 {
     let first = read_ranked(alloc, tokens)?;
-    let mut ranks = Items::new(alloc);
+    let mut ranks = Vec::new(alloc);
     ranks.push(first)?;
     'signs: while tokens.eat(Terminal::Better) {
         let next = read_ranked(alloc, tokens)?;
         ranks.push(next)?;
     }
-    Ok(ranks)
+    Ok(fitted(ranks))
 }
 
 // What stands behind `||`, or none.
@@ -78,13 +78,13 @@ fn read_row(alloc: Global, tokens: &mut Cursor<'_>) -> Result<Items<Element>, St
     ensures shorter { length tokens.new ≤ length tokens.old }
 {
     let first = read_element(alloc, tokens)?;
-    let mut elements = Items::new(alloc);
+    let mut elements = Vec::new(alloc);
     elements.push(first)?;
     'semicolons: while tokens.eat(Terminal::Semicolon) {
         let next = read_element(alloc, tokens)?;
         elements.push(next)?;
     }
-    Ok(elements)
+    Ok(fitted(elements))
 }
 
 // The elements of a statement, in their braces.

@@ -5,8 +5,8 @@ ghost use Rattle.pref_parse.specs.Readings.{IsReading};
 use crate::sections::read_text;
 use ap_lexemes::{ParseFault, tokenize};
 use ap_parse::program;
-use literal_parse::Cursor;
 use ap_syntax::{PartKind, Program};
+use literal_parse::Cursor;
 use std::alloc::Global;
 
 /// The program of a whole file of at most 16,777,216 bytes, which may have preference statements and begins in the base part.

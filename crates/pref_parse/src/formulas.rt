@@ -13,8 +13,8 @@ ghost use Rattle.literal_parse.specs.Reads.{Reads, Tells};
 ghost use Rattle.pref_parse.specs.Formulas.{IsConjunction, IsDisjunction, IsFormula, IsFormulaRest, IsUnit, unit};
 
 use ap_grammar::Terminal;
+use ap_syntax::{Formula, fitted};
 use literal_parse::{Cursor, Stop, read_atom};
-use ap_syntax::Formula;
 use sqlite_items::{Boxed, Items};
 use std::alloc::Global;
 
@@ -60,13 +60,13 @@ pub fn read_disjuncts(
     ensures read { Reads (Star (Tok Or ⨾ call names.Conjunction)) (IsDisjunction first) tokens.old tokens.new result }
     ensures shorter { length tokens.new ≤ length tokens.old }
 {
-    let mut members = Items::new(alloc);
+    let mut members = Vec::new(alloc);
     members.push(first)?;
     'signs: while tokens.eat(Terminal::Or) {
         let next = read_conjunction(alloc, tokens)?;
         members.push(next)?;
     }
-    Ok(disjunction(members))
+    Ok(disjunction(fitted(members)))
 }
 
 #[cycle(formulas)]
@@ -88,13 +88,13 @@ pub fn read_conjuncts(
     ensures read { Reads (Star (Tok And ⨾ call names.Member)) (IsConjunction first) tokens.old tokens.new result }
     ensures shorter { length tokens.new ≤ length tokens.old }
 {
-    let mut members = Items::new(alloc);
+    let mut members = Vec::new(alloc);
     members.push(first)?;
     'signs: while tokens.eat(Terminal::And) {
         let next = read_member(alloc, tokens)?;
         members.push(next)?;
     }
-    Ok(conjunction(members))
+    Ok(conjunction(fitted(members)))
 }
 
 #[cycle(formulas)]

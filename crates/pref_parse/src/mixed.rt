@@ -13,8 +13,8 @@ ghost use Rattle.pref_parse.specs.Mixed.{IsInner, IsInnerRest, IsMixed, IsMixedR
 use crate::formulas::{begins_connective, read_formula_rest, read_unit};
 use crate::operators::{begins_operator, read_term_rest};
 use ap_grammar::Terminal;
-use literal_parse::{Cursor, Operand, Stop, read_arguments, read_primary, read_tuple};
 use ap_syntax::{Atom, Formula, Term};
+use literal_parse::{Cursor, Operand, Stop, read_arguments, read_primary, read_tuple};
 use sqlite_items::{Boxed, Items};
 use std::alloc::Global;
 

@@ -11,8 +11,8 @@ ghost use Rattle.literal_parse.specs.Reads.{Reads, Tells};
 ghost use Rattle.pref_parse.specs.Operators.{Operates};
 
 use ap_grammar::Terminal;
-use literal_parse::{Cursor, Stop, product_sign, read_product, read_sum, read_unary, sum_sign};
 use ap_syntax::Term;
+use literal_parse::{Cursor, Stop, product_sign, read_product, read_sum, read_unary, sum_sign};
 use sqlite_items::Boxed;
 use std::alloc::Global;
 

@@ -15,8 +15,8 @@ ghost use Rattle.pref_parse.specs.Ranks.{IsRanked, IsRankedRest, IsTarget, IsWei
 use crate::formulas::read_formula;
 use crate::mixed::{Mixed, read_mixed};
 use ap_grammar::Terminal;
+use ap_syntax::{Atom, Formula, Ranked, Target, Term, fitted};
 use literal_parse::{Cursor, Operand, Stop, read_term};
-use ap_syntax::{Atom, Formula, Ranked, Target, Term};
 use sqlite_items::Items;
 use std::alloc::Global;
 
@@ -100,13 +100,13 @@ fn read_weights(alloc: Global, tokens: &mut Cursor<'_>, first: Term) -> Result<I
     ensures read { Reads (Star weight_item) (IsWeights first) tokens.old tokens.new result }
     ensures shorter { length tokens.new ≤ length tokens.old }
 {
-    let mut weights = Items::new(alloc);
+    let mut weights = Vec::new(alloc);
     weights.push(first)?;
     'commas: while tokens.eat(Terminal::Comma) {
         let next = read_term(alloc, tokens)?;
         weights.push(next.into_term())?;
     }
-    Ok(weights)
+    Ok(fitted(weights))
 }
 
 // What stands behind the weights: a formula, or the name of another preference statement.

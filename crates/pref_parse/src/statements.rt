@@ -12,8 +12,8 @@ ghost use Rattle.pref_parse.specs.Statements.{IsPreference};
 use crate::elements::read_elements;
 use ap_grammar::Terminal;
 use ap_parse::{is_statement_start, read_kind, read_statement};
-use literal_parse::{Cursor, Stop};
 use ap_syntax::{Preference, Statement};
+use literal_parse::{Cursor, Stop};
 use std::alloc::Global;
 
 // Whether a statement of any kind begins with a token of this kind.

@@ -1,5 +1,5 @@
 // The statements of several files.
-ghost use Rattle.std.specs.Prelude.{◌≡◌, ◌≤◌, ◌<◌, All, length, IfOk, IfErr};
+ghost use Rattle.std.specs.Prelude.{◌≡◌, ◌++◌, ◌≤◌, ◌<◌, All, length, IfOk, IfErr};
 ghost use Rattle.small_front.specs.Files.{AreRead, bytes_of};
 ghost use Rattle.small_front.specs.Stages.{ReadingCause, refusal_of};
 
@@ -8,7 +8,7 @@ use ap_lexemes::ParseFault;
 use ap_syntax::Statement;
 use pref_parse::parse_bytes;
 use sqlite_items::Items;
-use std::alloc::Global;
+use std::alloc::{AllocError, Global};
 
 /// The refusal of a file with this fault.
 fn refusal(file: u32, fault: ParseFault) -> FrontFault
@@ -18,6 +18,20 @@ fn refusal(file: u32, fault: ParseFault) -> FrontFault
         ParseFault::Memory => FrontFault::Memory,
         other => FrontFault::Reading { file, fault: other },
     }
+}
+
+/// Some statements, and more behind them. Where there are none yet, what is more is taken as it is.
+fn joined(
+    mut statements: Items<Statement>,
+    more: Items<Statement>,
+) -> Result<Items<Statement>, AllocError>
+    ensures { IfOk result (λ all. all ≡ statements ++ more) }
+{
+    if statements.is_empty() {
+        return Ok(more);
+    }
+    statements.append(more)?;
+    Ok(statements)
 }
 
 /// The statements of all files, in order. `Reading` comes exactly for the first file that is not the text of a program.
@@ -32,7 +46,7 @@ pub fn read_files(alloc: Global, files: &[Vec<u8>]) -> Result<Items<Statement>, 
     for file in files {
         number += 1;
         match parse_bytes(alloc, file, number) {
-            Ok(program) => statements.append(program.statements)?,
+            Ok(program) => statements = joined(statements, program.statements)?,
             Err(fault) => return Err(refusal(number, fault)),
         }
     }

@@ -7,6 +7,7 @@ use crate::accepted::Accepted;
 use crate::constants::second_const;
 use crate::fault::FrontFault;
 use crate::files::read_files;
+use crate::later::first_later;
 use crate::place::Place;
 use crate::program::small_program;
 use crate::shown::shown_by;
@@ -29,13 +30,13 @@ pub fn accept(alloc: Global, files: &[Vec<u8>]) -> Result<Accepted, FrontFault>
     ensures refused { IfErr result (FrontCause (bytes_of files.now)) }
 {
     let statements = read_files(alloc, files)?;
-    let statements = statements.as_slice();
-    let program = small_program(alloc, statements)?;
-    if let Some(Place { file, at }) = second_const(alloc, statements)? {
+    if let Some(Place { file, at }) = first_later(statements.as_slice()) {
+        return Err(FrontFault::Later { file, at });
+    }
+    if let Some(Place { file, at }) = second_const(alloc, statements.as_slice())? {
         return Err(FrontFault::ConstTwice { file, at });
     }
-    Ok(Accepted {
-        program,
-        shown: shown_by(alloc, statements)?,
-    })
+    let shown = shown_by(alloc, statements.as_slice())?;
+    let program = small_program(alloc, statements)?;
+    Ok(Accepted { program, shown })
 }

@@ -6,6 +6,7 @@ mod constants;
 mod fault;
 mod files;
 mod front;
+mod later;
 mod names;
 mod place;
 mod preferences;

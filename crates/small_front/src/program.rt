@@ -1,106 +1,72 @@
 // The small program of some statements.
-ghost use Rattle.std.specs.Prelude.{◌≡◌, None, IfOk, IfErr};
-ghost use Rattle.small_front.specs.Forms.{small_statement_of};
-ghost use Rattle.small_front.specs.Later.{declares, first_later, is_declared, is_optimize, is_preference, later_place};
-ghost use Rattle.small_front.specs.Stages.{IsSmallProgram, LaterCause};
+ghost use Rattle.std.specs.Prelude.{◌≡◌, is_some, length, IfOk};
+ghost use Rattle.std.specs.List.{filter_map};
+ghost use Rattle.small_front.specs.Forms.{small_of, small_statement_of};
 
-use crate::fault::FrontFault;
-use crate::preferences::small_preference;
-use crate::rules::small_rule;
-use ap_syntax::{PartKind, Statement, Text, small};
+use crate::preferences::{is_small_preference, small_preference};
+use crate::rules::{is_small_rule, small_rule};
+use ap_syntax::{Statement, small};
 use sqlite_items::Items;
-use std::alloc::Global;
+use std::alloc::{AllocError, Global};
 
-fn declares(statement: &Statement, name: &Text) -> bool
-    ensures { result ≡ declares name.now statement.now }
-{
-    match statement {
-        Statement::Preference(preference) => preference.name == *name,
-        _ => false,
-    }
-}
-
-fn is_declared(statements: &[Statement], name: &Text) -> bool
-    ensures { result ≡ is_declared statements.now name.now }
-{
-    statements.iter().any(|statement| declares(statement, name))
-}
-
-fn is_preference(statement: &Statement) -> bool
-    ensures { result ≡ is_preference statement.now }
-{
-    matches!(statement, Statement::Preference(_))
-}
-
-fn is_optimize(statement: &Statement) -> bool
-    ensures { result ≡ is_optimize statement.now }
-{
-    matches!(statement, Statement::Optimize { .. })
-}
-
-/// What stands for a statement in the small program, if something does; `preferred` and `optimised` say whether a preference
-/// statement and an `#optimize` stand before it. `Later` comes exactly where it is of a later form.
+/// What stands for a statement in the small program, if something does.
 fn small_statement(
     alloc: Global,
-    all: &[Statement],
-    preferred: bool,
-    optimised: bool,
-    statement: &Statement,
-) -> Result<Option<small::Statement>, FrontFault>
-    ensures found { IfOk result (λ found. found ≡ small_statement_of statement.now) }
-    ensures not_later { IfOk result (λ found. later_place all.now preferred optimised statement.now ≡ None) }
-    ensures later { IfErr result (LaterCause (later_place all.now preferred optimised statement.now)) }
+    statement: Statement,
+) -> Result<Option<small::Statement>, AllocError>
+    ensures { IfOk result (λ found. found ≡ small_statement_of statement) }
 {
     match statement {
-        Statement::Rule(rule) => match small_rule(alloc, rule)? {
-            Some(small) => Ok(Some(small::Statement::Rule(small))),
-            None => Err(FrontFault::Later {
-                file: rule.file,
-                at: rule.at,
-            }),
-        },
-        Statement::Preference(preference) => match small_preference(alloc, preference)? {
-            Some(small) if !preferred => Ok(Some(small::Statement::Preference(small))),
-            _ => Err(FrontFault::Later {
-                file: preference.file,
-                at: preference.at,
-            }),
-        },
-        Statement::Optimize { file, at, name } => {
-            if optimised || !is_declared(all, name) {
-                return Err(FrontFault::Later {
-                    file: *file,
-                    at: *at,
-                });
-            }
-            Ok(Some(small::Statement::Optimize(name.copy(alloc)?)))
+        Statement::Rule(rule) => Ok(small_rule(alloc, rule)?.map(small::Statement::Rule)),
+        Statement::Preference(preference) => {
+            Ok(small_preference(alloc, preference)?.map(small::Statement::Preference))
         }
-        Statement::Part {
-            file,
-            at,
-            part: PartKind::Kind(_),
-        } => Err(FrontFault::Later {
-            file: *file,
-            at: *at,
-        }),
+        Statement::Optimize { name, .. } => Ok(Some(small::Statement::Optimize(name))),
         _ => Ok(None),
     }
 }
 
-/// The small program of all statements. `Later` comes exactly for the first of a later form.
-pub fn small_program(alloc: Global, statements: &[Statement]) -> Result<small::Program, FrontFault>
-    ensures small { IfOk result (IsSmallProgram statements.now) }
-    ensures later { IfErr result (LaterCause (first_later statements.now)) }
+/// Whether something stands for a statement in the small program.
+fn is_small(statement: &Statement) -> bool
+    ensures { result ≡ is_some (small_statement_of statement.now) }
 {
-    let mut small = Items::new(alloc);
-    let mut preferred = false;
-    let mut optimised = false;
-    for statement in statements {
-        if let Some(found) = small_statement(alloc, statements, preferred, optimised, statement)? {
-            small.push(found)?;
-        }
-        preferred = preferred || is_preference(statement);
-        optimised = optimised || is_optimize(statement);
+    match statement {
+        Statement::Rule(rule) => is_small_rule(rule),
+        Statement::Preference(preference) => is_small_preference(preference),
+        Statement::Optimize { .. } => true,
+        _ => false,
     }
-    Ok(small::Program { statements: small })
+}
+
+/// For how many statements something stands in the small program.
+fn count_small(statements: &[Statement]) -> usize
+    ensures { result ≡ length (filter_map small_statement_of statements.now) }
+{
+    let mut count = 0;
+    for statement in statements {
+        if is_small(statement) {
+            count += 1;
+        }
+    }
+    count
+}
+
+/// The small program of all statements. It takes their names and frees the rest as it goes.
+pub fn small_program(
+    alloc: Global,
+    mut statements: Items<Statement>,
+) -> Result<small::Program, AllocError>
+    ensures { IfOk result (λ program. program ≡ small_of statements) }
+{
+    let mut small = Vec::with_capacity(alloc, count_small(statements.as_slice()))?;
+    'statements: while let Some(last) = statements.pop() {
+        match small_statement(alloc, last)? {
+            Some(found) => small.push(found)?,
+            None => {}
+        }
+    }
+    small.reverse();
+    Ok(small::Program {
+        statements: Items::from_vec(small),
+    })
 }

@@ -86,23 +86,9 @@ fn program(
     }
 }
 
-fn one(atom: u64, body: u64) -> GroundRule {
+fn rule(head: Head, body: u64) -> GroundRule {
     GroundRule {
-        head: Head::One(AtomId(atom)),
-        body: BodyId(body),
-    }
-}
-
-fn choice(atom: u64, body: u64) -> GroundRule {
-    GroundRule {
-        head: Head::Choice(AtomId(atom)),
-        body: BodyId(body),
-    }
-}
-
-fn constraint(body: u64) -> GroundRule {
-    GroundRule {
-        head: Head::Nothing,
+        head,
         body: BodyId(body),
     }
 }
@@ -111,14 +97,24 @@ fn constraint(body: u64) -> GroundRule {
 fn pair(alloc: Global) -> Result<Option<GroundProgram>, AllocError>
     ensures { IfOk result (λ o. IfSome o (λ g. length g.atoms ≡ 2)) }
 {
-    let rules = [choice(1, 1), choice(2, 1), constraint(2)];
+    let rules = [
+        rule(Head::Choice(AtomId(1)), 1),
+        rule(Head::Choice(AtomId(2)), 1),
+        rule(Head::Nothing, 2),
+    ];
     let bodies = vec![in alloc; body(alloc, &[], &[])?, body(alloc, &[-1, -2], &[])?]?;
     program(alloc, 2, &rules, bodies, Vec::new(alloc), &[])
 }
 
 // `a :- b. b :- a. b :- c. {c}. :- c.`
 fn chain(alloc: Global) -> Result<Option<GroundProgram>, AllocError> {
-    let rules = [one(1, 3), one(2, 2), one(2, 4), choice(3, 1), constraint(4)];
+    let rules = [
+        rule(Head::One(AtomId(1)), 3),
+        rule(Head::One(AtomId(2)), 2),
+        rule(Head::One(AtomId(2)), 4),
+        rule(Head::Choice(AtomId(3)), 1),
+        rule(Head::Nothing, 4),
+    ];
     let bodies = vec![in alloc;
         body(alloc, &[], &[])?,
         body(alloc, &[1], &[])?,
@@ -143,7 +139,17 @@ fn guarded(alloc: Global, rel: GuardRel) -> Result<Option<GroundProgram>, AllocE
             right: None,
         },
     ]?;
-    program(alloc, 2, &[choice(2, 1), one(1, 2)], bodies, groups, &[])
+    program(
+        alloc,
+        2,
+        &[
+            rule(Head::Choice(AtomId(2)), 1),
+            rule(Head::One(AtomId(1)), 2),
+        ],
+        bodies,
+        groups,
+        &[],
+    )
 }
 
 // `{b; c}. a :- not 1 <= #sum{2 : b, c; 3 : c} = 3.`
@@ -165,7 +171,11 @@ fn sums(alloc: Global) -> Result<Option<GroundProgram>, AllocError> {
     program(
         alloc,
         3,
-        &[choice(2, 1), choice(3, 1), one(1, 2)],
+        &[
+            rule(Head::Choice(AtomId(2)), 1),
+            rule(Head::Choice(AtomId(3)), 1),
+            rule(Head::One(AtomId(1)), 2),
+        ],
         bodies,
         groups,
         &[],
@@ -180,7 +190,7 @@ fn later(alloc: Global) -> Result<Option<GroundProgram>, AllocError>
     program(
         alloc,
         2,
-        &[one(1, 1)],
+        &[rule(Head::One(AtomId(1)), 1)],
         bodies,
         Vec::new(alloc),
         &[AtomId(2)],

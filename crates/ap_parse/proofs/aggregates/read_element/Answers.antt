@@ -10,4 +10,4 @@ pub returns-in_err-condition-clause-read : goal.returns-in_err-condition-clause-
 returns-in_err-condition-clause-read c = exit c.in_err-condition.ensures.read c.from_residual-in_err-condition.ensures.1 (element_fails c.in_ok-terms.ensures.read)
 
 pub returns-clause-read : goal.returns-clause-read
-returns-clause-read c = element_read c.in_ok-terms.ensures.read c.new.ensures c.in_ok-condition.ensures.read
+returns-clause-read c = element_read c.in_ok-terms.ensures.read c.new.ensures.items c.in_ok-condition.ensures.read

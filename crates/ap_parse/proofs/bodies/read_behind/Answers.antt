@@ -9,7 +9,7 @@ pub returns-in_err-aggregate-clause-read : goal.returns-in_err-aggregate-clause-
 returns-in_err-aggregate-clause-read c = exit c.in_err-aggregate.ensures.read c.from_residual.ensures.1 (behind_aggregate_fails c.args.left c.in_default.ensures c.if-begins_aggregate.ensures)
 
 pub returns-then-begins_aggregate-clause-read : goal.returns-then-begins_aggregate-clause-read
-returns-then-begins_aggregate-clause-read c = behind_aggregate c.args.left c.in_default.ensures c.if-begins_aggregate.ensures c.into_term-then-begins_aggregate.ensures c.in_ok-aggregate.ensures.read
+returns-then-begins_aggregate-clause-read c = rw c.in_ok-new.ensures (behind_aggregate c.args.left c.in_default.ensures c.if-begins_aggregate.ensures c.into_term-then-begins_aggregate.ensures c.in_ok-aggregate.ensures.read)
 
 pub returns-in_err-bare-clause-read : goal.returns-in_err-bare-clause-read
 returns-in_err-bare-clause-read c = behind_other c.args.left c.in_default.ensures _ c.if-begins_aggregate.ensures c.in_err-bare.ensures c.from_residual-in_err-bare.ensures.1

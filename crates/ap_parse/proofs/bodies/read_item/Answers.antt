@@ -1,5 +1,5 @@
 use Rattle.grammar.specs.Takes.{Fails}
-use Rattle.ap_parse.proofs.BodyLemmas.{item_exit, item_aggregate, item_plain, item_condition_fails, item_conditional}
+use Rattle.ap_parse.proofs.BodyLemmas.{item_exit, item_aggregate, item_plain, item_condition_fails, item_conditional, item_memory}
 use Rattle.ap_parse.proofs.bodies.read_item.Goals as goal
 
 pub returns-in_err-literal-clause-read : goal.returns-in_err-literal-clause-read
@@ -15,4 +15,7 @@ pub returns-in_err-condition-clause-read : goal.returns-in_err-condition-clause-
 returns-in_err-condition-clause-read c = item_exit c.in_err-condition.ensures.read c.from_residual-in_err-condition.ensures.1 (item_condition_fails c.in_ok-literal.ensures.read c.in-Literal.is c.if-not-sees.ensures)
 
 pub returns-clause-read : goal.returns-clause-read
-returns-clause-read c = item_conditional c.in_ok-literal.ensures.read c.in-Literal.is c.place-place.result c.place-place.ensures c.if-not-sees.ensures c.in_ok-condition.ensures.read
+returns-clause-read c = rw c.in_ok-new.ensures (item_conditional c.in_ok-literal.ensures.read c.in-Literal.is c.place-place.result c.place-place.ensures c.if-not-sees.ensures c.in_ok-condition.ensures.read)
+
+pub returns-in_err-new-clause-read : goal.returns-in_err-new-clause-read
+returns-in_err-new-clause-read c = item_memory c.from_residual-in_err-new.ensures.1

@@ -6,10 +6,10 @@ pub returns-in_err-aggregate-clause-read : goal.returns-in_err-aggregate-clause-
 returns-in_err-aggregate-clause-read c = exit c.in_err-aggregate.ensures.read c.from_residual.ensures.1 (related_aggregate_fails c.args.left c.args.rel c.if-begins_aggregate.ensures)
 
 pub returns-then-begins_aggregate-clause-read : goal.returns-then-begins_aggregate-clause-read
-returns-then-begins_aggregate-clause-read c = related_aggregate c.args.left c.args.rel c.if-begins_aggregate.ensures c.in_ok-aggregate.ensures.read
+returns-then-begins_aggregate-clause-read c = rw c.in_ok-new.ensures (related_aggregate c.args.left c.args.rel c.if-begins_aggregate.ensures c.in_ok-aggregate.ensures.read)
 
 pub returns-in_err-right-clause-read : goal.returns-in_err-right-clause-read
 returns-in_err-right-clause-read c = exit c.in_err-right.ensures.read c.from_residual-in_err-right.ensures.1 (related_term_fails c.args.left c.args.rel c.if-begins_aggregate.ensures)
 
 pub returns-clause-read : goal.returns-clause-read
-returns-clause-read c = rw c.into_term.ensures (related_term c.args.left c.args.rel c.if-begins_aggregate.ensures c.in_ok-right.ensures.read)
+returns-clause-read c = rw (c.in_ok-left.ensures, c.in_ok-right-2.ensures, c.into_term.ensures) (related_term c.args.left c.args.rel c.if-begins_aggregate.ensures c.in_ok-right.ensures.read)

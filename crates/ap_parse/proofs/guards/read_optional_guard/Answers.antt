@@ -10,4 +10,4 @@ pub returns-in_err-guard-clause-read : goal.returns-in_err-guard-clause-read
 returns-in_err-guard-clause-read c = exit c.in_err-guard.ensures.read c.from_residual.ensures.1 (λ f. Fails.left c.if-not-begins_guard.ensures f)
 
 pub returns-clause-read : goal.returns-clause-read
-returns-clause-read c = guard_present c.if-not-begins_guard.ensures c.in_ok-guard.ensures.read
+returns-clause-read c = rw c.in_ok-new.ensures (guard_present c.if-not-begins_guard.ensures c.in_ok-guard.ensures.read)

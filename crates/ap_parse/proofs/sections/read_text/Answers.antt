@@ -17,4 +17,4 @@ pub sections-preserved : goal.sections-preserved
 sections-preserved c = record { shorter = grind (arith, common_steps); so_far = sections_more false c.sections.invariant.so_far c.in_ok-statements-2.ensures.read }
 
 pub returns-clause-read : goal.returns-clause-read
-returns-clause-read c = text_read false c.args.of_type c.in_ok-statements.ensures.read c.sections.invariant.so_far c.new.ensures c.sections-test.ensures
+returns-clause-read c = rw c.fitted.ensures (text_read false c.args.of_type c.in_ok-statements.ensures.read c.sections.invariant.so_far c.new.ensures.items c.sections-test.ensures)

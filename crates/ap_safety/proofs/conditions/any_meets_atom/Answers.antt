@@ -1,6 +1,6 @@
 use Rattle.std.proofs.Common.{◌∙◌, sym}
 use Rattle.ap_safety.specs.Tests.{meets_atom}
-use Rattle.ap_safety.proofs.MemberLemmas.{any_step}
+use Rattle.pred_graph.proofs.MemberLemmas.{any_step}
 use Rattle.ap_safety.proofs.conditions.any_meets_atom.Goals as goal
 
 pub loop-element-preserved : goal.loop-element-preserved

@@ -1,5 +1,5 @@
 use Rattle.std.proofs.Common.{◌≡◌, ◌++◌, drop, flat_map}
-use Rattle.ap_safety.specs.Tables.{place_in}
+use Rattle.pred_graph.specs.Tables.{place_in}
 use Rattle.ap_safety.specs.Judged.{choice_nodes}
 use Rattle.ap_safety.proofs.decided.push_choices.Given as goal
 

@@ -1,5 +1,5 @@
 use Rattle.std.proofs.Common.{◌≡◌, ◌++◌, drop, map}
-use Rattle.ap_safety.specs.Tables.{place_in}
+use Rattle.pred_graph.specs.Tables.{place_in}
 use Rattle.ap_safety.proofs.decided.push_places.Given as goal
 
 abbrev pub invariant-loop-pred : goal.invariant-loop-pred

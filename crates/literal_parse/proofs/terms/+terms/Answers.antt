@@ -102,7 +102,7 @@ read_group-returns-clause-read t c = tuple_reads c.if-eat.ensures c.in_ok-first.
 -- ---- tuples
 
 pub read_tuple-returns-then-eat-clause-read : goal.read_tuple-returns-then-eat-clause-read
-read_tuple-returns-then-eat-clause-read t c = tuple_closed c.args.first c.new-members.ensures c.in_ok-push.ensures.ok c.if-eat.ensures
+read_tuple-returns-then-eat-clause-read t c = rw c.fitted.ensures (tuple_closed c.args.first c.new-members.ensures.items c.in_ok-push.ensures.items c.if-eat.ensures)
 
 pub read_tuple-returns-in_err-all-clause-read : goal.read_tuple-returns-in_err-all-clause-read
 read_tuple-returns-in_err-all-clause-read t c = exit c.in_err-all.ensures.read c.from_residual-in_err-all.ensures.1 (tuple_terms_fail c.if-eat.ensures)
@@ -111,7 +111,7 @@ pub read_tuple-returns-in_err-expect-clause-read : goal.read_tuple-returns-in_er
 read_tuple-returns-in_err-expect-clause-read t c = exit c.in_err-expect.ensures.read c.from_residual-in_err-expect.ensures.1 (tuple_close_fails c.if-eat.ensures c.in_ok-all.ensures.read)
 
 pub read_tuple-returns-clause-read : goal.read_tuple-returns-clause-read
-read_tuple-returns-clause-read t c = tuple_read c.if-eat.ensures c.in_ok-all.ensures.read c.args.first c.new-members.ensures c.in_ok-push.ensures.ok c.in_ok-expect.ensures.read
+read_tuple-returns-clause-read t c = tuple_read c.if-eat.ensures c.in_ok-all.ensures.read c.args.first c.new-members.ensures.items c.in_ok-push.ensures.items c.in_ok-expect.ensures.read
 
 -- ---- arguments
 
@@ -125,7 +125,7 @@ pub read_arguments-returns-in_err-expect-clause-read : goal.read_arguments-retur
 read_arguments-returns-in_err-expect-clause-read t c = exit c.in_err-expect.ensures.read c.from_residual-in_err-expect.ensures.1 (arguments_close_fails c.if-not-eat.ensures c.in_ok-terms.ensures.read)
 
 pub read_arguments-returns-clause-read : goal.read_arguments-returns-clause-read
-read_arguments-returns-clause-read t c = arguments_read c.if-not-eat.ensures c.in_ok-terms.ensures.read c.new-2.ensures c.in_ok-expect.ensures.read
+read_arguments-returns-clause-read t c = arguments_read c.if-not-eat.ensures c.in_ok-terms.ensures.read c.new-2.ensures.items c.in_ok-expect.ensures.read
 
 -- ---- lists of terms
 
@@ -136,7 +136,7 @@ pub read_terms-returns-in_err-next-clause-read : goal.read_terms-returns-in_err-
 read_terms-returns-in_err-next-clause-read t c = exit c.in_err-next.ensures.read c.from_residual-in_err-next.ensures.1 (terms_fail c.in_ok-first.ensures.read c.commas.invariant.so_far c.commas-test.ensures)
 
 pub read_terms-commas-preserved : goal.read_terms-commas-preserved
-read_terms-commas-preserved t c = record { shorter = grind (arith, common_steps); so_far = rw (c.in_ok-push-2.ensures.ok, c.into_term-in-commas.ensures) (terms_more c.commas.invariant.so_far c.commas-test.ensures c.in_ok-next.ensures.read) }
+read_terms-commas-preserved t c = record { shorter = grind (arith, common_steps); so_far = rw (c.in_ok-push-2.ensures.items, c.into_term-in-commas.ensures) (terms_more c.commas.invariant.so_far c.commas-test.ensures c.in_ok-next.ensures.read) }
 
 pub read_terms-returns-clause-read : goal.read_terms-returns-clause-read
-read_terms-returns-clause-read t c = terms_end c.in_ok-first.ensures.read c.commas.invariant.so_far c.args.terms (c.in_ok-push.ensures.ok ∙ ap (λ x. c.args.terms ++ x ∷ []) c.into_term.ensures) c.commas-test.ensures
+read_terms-returns-clause-read t c = rw c.fitted.ensures (terms_end c.in_ok-first.ensures.read c.commas.invariant.so_far c.args.terms.items (c.in_ok-push.ensures.items ∙ ap (λ x. c.args.terms.items ++ x ∷ []) c.into_term.ensures) c.commas-test.ensures)

@@ -47,7 +47,7 @@ abbrev pub decreases-read_product-signs : goal.decreases-read_product-signs
 decreases-read_product-signs l = length l.tokens
 
 abbrev pub invariant-read_terms-commas : goal.invariant-read_terms-commas
-invariant-read_terms-commas l = record { shorter : length l.tokens ≤ length l.initial.tokens; so_far : Collects as_term TermItem l.initial.tokens l.tokens l.initial.terms l.terms }
+invariant-read_terms-commas l = record { shorter : length l.tokens ≤ length l.initial.tokens; so_far : Collects as_term TermItem l.initial.tokens l.tokens l.initial.terms.items l.terms.items }
 
 abbrev pub decreases-read_terms-commas : goal.decreases-read_terms-commas
 decreases-read_terms-commas l = length l.tokens

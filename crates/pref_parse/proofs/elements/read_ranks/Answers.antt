@@ -15,7 +15,7 @@ pub returns-in_err-next-clause-read : goal.returns-in_err-next-clause-read
 returns-in_err-next-clause-read c = exit c.in_err-next.ensures.read c.from_residual-in_err-next.ensures.1 (ranks_fail c.in_ok-first.ensures.read c.signs.invariant.so_far c.signs-test.ensures)
 
 pub signs-preserved : goal.signs-preserved
-signs-preserved c = record { shorter = grind (arith, common_steps); so_far = rw c.in_ok-push-2.ensures.ok (ranking_more c.signs.invariant.so_far c.signs-test.ensures c.in_ok-next.ensures.read) }
+signs-preserved c = record { shorter = grind (arith, common_steps); so_far = rw c.in_ok-push-2.ensures.items (ranking_more c.signs.invariant.so_far c.signs-test.ensures c.in_ok-next.ensures.read) }
 
 pub returns-clause-read : goal.returns-clause-read
-returns-clause-read c = ranks_end c.in_ok-first.ensures.read c.signs.invariant.so_far c.new-ranks.ensures c.in_ok-push.ensures.ok c.signs-test.ensures
+returns-clause-read c = rw c.fitted.ensures (ranks_end c.in_ok-first.ensures.read c.signs.invariant.so_far c.new-ranks.ensures.items c.in_ok-push.ensures.items c.signs-test.ensures)

@@ -12,7 +12,7 @@ pub returns-in_err-next-clause-read : goal.returns-in_err-next-clause-read
 returns-in_err-next-clause-read c = exit c.in_err-next.ensures.read c.from_residual-in_err-next.ensures.1 (row_fails c.in_ok-first.ensures.read c.semicolons.invariant.so_far c.semicolons-test.ensures)
 
 pub semicolons-preserved : goal.semicolons-preserved
-semicolons-preserved c = record { shorter = grind (arith, common_steps); so_far = rw c.in_ok-push-2.ensures.ok (row_more c.semicolons.invariant.so_far c.semicolons-test.ensures c.in_ok-next.ensures.read) }
+semicolons-preserved c = record { shorter = grind (arith, common_steps); so_far = rw c.in_ok-push-2.ensures.items (row_more c.semicolons.invariant.so_far c.semicolons-test.ensures c.in_ok-next.ensures.read) }
 
 pub returns-clause-read : goal.returns-clause-read
-returns-clause-read c = row_end c.in_ok-first.ensures.read c.semicolons.invariant.so_far c.new-elements.ensures c.in_ok-push.ensures.ok c.semicolons-test.ensures
+returns-clause-read c = rw c.fitted.ensures (row_end c.in_ok-first.ensures.read c.semicolons.invariant.so_far c.new-elements.ensures.items c.in_ok-push.ensures.items c.semicolons-test.ensures)

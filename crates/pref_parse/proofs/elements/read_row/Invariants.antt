@@ -5,7 +5,7 @@ use Rattle.pref_parse.proofs.ElementLemmas.{ElementItem}
 use Rattle.pref_parse.proofs.elements.read_row.Given as goal
 
 abbrev pub invariant-semicolons : goal.invariant-semicolons
-invariant-semicolons l = record { shorter : length l.tokens ≤ length l.initial.tokens; so_far : Collects as_element ElementItem l.initial.tokens l.tokens l.initial.elements l.elements }
+invariant-semicolons l = record { shorter : length l.tokens ≤ length l.initial.tokens; so_far : Collects as_element ElementItem l.initial.tokens l.tokens l.initial.elements.items l.elements.items }
 
 abbrev pub decreases-semicolons : goal.decreases-semicolons
 decreases-semicolons l = length l.tokens

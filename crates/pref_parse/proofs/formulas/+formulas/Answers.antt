@@ -22,10 +22,10 @@ pub read_disjuncts-returns-in_err-next-clause-read : goal.read_disjuncts-returns
 read_disjuncts-returns-in_err-next-clause-read t c = exit c.in_err-next.ensures.read c.from_residual-in_err-next.ensures.1 (joining_fails c.signs.invariant.so_far c.signs-test.ensures)
 
 pub read_disjuncts-signs-preserved : goal.read_disjuncts-signs-preserved
-read_disjuncts-signs-preserved t c = record { shorter = grind (arith, common_steps); so_far = rw c.in_ok-push-2.ensures.ok (joining_more c.signs.invariant.so_far c.signs-test.ensures c.in_ok-next.ensures.read) }
+read_disjuncts-signs-preserved t c = record { shorter = grind (arith, common_steps); so_far = rw c.in_ok-push-2.ensures.items (joining_more c.signs.invariant.so_far c.signs-test.ensures c.in_ok-next.ensures.read) }
 
 pub read_disjuncts-returns-clause-read : goal.read_disjuncts-returns-clause-read
-read_disjuncts-returns-clause-read t c = joining_end c.signs.invariant.so_far c.new-members.ensures c.in_ok-push.ensures.ok c.signs-test.ensures c.disjunction.ensures
+read_disjuncts-returns-clause-read t c = joining_end c.signs.invariant.so_far c.new-members.ensures.items c.in_ok-push.ensures.items c.signs-test.ensures (rw c.fitted.ensures at c.disjunction.ensures)
 
 -- ---- conjunctions
 
@@ -42,10 +42,10 @@ pub read_conjuncts-returns-in_err-next-clause-read : goal.read_conjuncts-returns
 read_conjuncts-returns-in_err-next-clause-read t c = exit c.in_err-next.ensures.read c.from_residual-in_err-next.ensures.1 (joining_fails c.signs.invariant.so_far c.signs-test.ensures)
 
 pub read_conjuncts-signs-preserved : goal.read_conjuncts-signs-preserved
-read_conjuncts-signs-preserved t c = record { shorter = grind (arith, common_steps); so_far = rw c.in_ok-push-2.ensures.ok (joining_more c.signs.invariant.so_far c.signs-test.ensures c.in_ok-next.ensures.read) }
+read_conjuncts-signs-preserved t c = record { shorter = grind (arith, common_steps); so_far = rw c.in_ok-push-2.ensures.items (joining_more c.signs.invariant.so_far c.signs-test.ensures c.in_ok-next.ensures.read) }
 
 pub read_conjuncts-returns-clause-read : goal.read_conjuncts-returns-clause-read
-read_conjuncts-returns-clause-read t c = joining_end c.signs.invariant.so_far c.new-members.ensures c.in_ok-push.ensures.ok c.signs-test.ensures c.conjunction.ensures
+read_conjuncts-returns-clause-read t c = joining_end c.signs.invariant.so_far c.new-members.ensures.items c.in_ok-push.ensures.items c.signs-test.ensures (rw c.fitted.ensures at c.conjunction.ensures)
 
 -- ---- members
 

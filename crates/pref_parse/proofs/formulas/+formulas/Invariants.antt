@@ -24,13 +24,13 @@ abbrev pub decreases-read_unit : goal.decreases-read_unit
 decreases-read_unit l = 6 * length l.tokens.now
 
 abbrev pub invariant-read_disjuncts-signs : goal.invariant-read_disjuncts-signs
-invariant-read_disjuncts-signs l = record { shorter : length l.tokens ≤ length l.initial.tokens; so_far : Joining Or Name.Conjunction l.initial.tokens l.tokens l.initial.members l.members }
+invariant-read_disjuncts-signs l = record { shorter : length l.tokens ≤ length l.initial.tokens; so_far : Joining Or Name.Conjunction l.initial.tokens l.tokens l.initial.members.items l.members.items }
 
 abbrev pub decreases-read_disjuncts-signs : goal.decreases-read_disjuncts-signs
 decreases-read_disjuncts-signs l = length l.tokens
 
 abbrev pub invariant-read_conjuncts-signs : goal.invariant-read_conjuncts-signs
-invariant-read_conjuncts-signs l = record { shorter : length l.tokens ≤ length l.initial.tokens; so_far : Joining And Name.Member l.initial.tokens l.tokens l.initial.members l.members }
+invariant-read_conjuncts-signs l = record { shorter : length l.tokens ≤ length l.initial.tokens; so_far : Joining And Name.Member l.initial.tokens l.tokens l.initial.members.items l.members.items }
 
 abbrev pub decreases-read_conjuncts-signs : goal.decreases-read_conjuncts-signs
 decreases-read_conjuncts-signs l = length l.tokens

@@ -7,4 +7,4 @@ pub returns-in_err-opening-clause-read : goal.returns-in_err-opening-clause-read
 returns-in_err-opening-clause-read c = exit c.in_err-opening.ensures.read c.from_residual.ensures.1 (section_opening_fails true)
 
 pub returns-clause-read : goal.returns-clause-read
-returns-clause-read c = section_read true c.in_ok-opening.ensures.read (c.in_ok-push.ensures.ok ∙ ap (λ s. c.args.statements ++ s ∷ []) c.into_statement.ensures) c.is_of_type-of_type.ensures c.read_statements.ensures.read
+returns-clause-read c = section_read true c.in_ok-opening.ensures.read (c.in_ok-push.ensures.items ∙ ap (λ s. c.args.statements.items ++ s ∷ []) c.into_statement.ensures) c.is_of_type-of_type.ensures c.read_statements.ensures.read

@@ -11,7 +11,7 @@ pub statements-smaller : goal.statements-smaller
 statements-smaller c = statement_shorter true c.args.of_type c.in_ok-next.ensures.read
 
 pub statements-preserved : goal.statements-preserved
-statements-preserved c = record { shorter = grind (arith, common_steps); so_far = rw c.in_ok-push.ensures.ok (grows_more c.statements.invariant.so_far c.in_ok-next.ensures.read) }
+statements-preserved c = record { shorter = grind (arith, common_steps); so_far = rw c.in_ok-push.ensures.items (grows_more c.statements.invariant.so_far c.in_ok-next.ensures.read) }
 
 pub returns-clause-read : goal.returns-clause-read
-returns-clause-read c = grows_end c.statements.invariant.so_far c.statements-test.ensures
+returns-clause-read c = grows_end {all = c.statements.statements} c.statements.invariant.so_far c.statements-test.ensures

@@ -25,4 +25,4 @@ loop-file-preserved c =
     let read = subst (λ n. IsReading c.file-item.result.items (n + 1) (Ok program)) number
     (subst (λ bytes. IsReading bytes (c.loop-file.number + 1) (Ok program)) c.deref.ensures.value c.in-Ok.ensures) in
     let all = AreRead-more files i c.file-item.result c.loop-file.statements program c.loop-file-test.true c.file-item.is c.loop-file.invariant.1 read in
-    (ap (λ n. n + 1) number, subst (AreRead 1 (bytes_of (take (i + 1) files))) (sym c.in_ok-append-in-Ok.ensures) all)
+    (ap (λ n. n + 1) number, subst (AreRead 1 (bytes_of (take (i + 1) files))) (sym c.in_ok-statements-in-Ok.ensures) all)

@@ -1,10 +1,13 @@
-use Rattle.std.proofs.Common.{◌≡◌, ◌++◌, drop, is_some}
+use Rattle.std.proofs.Common.{◌≡◌, ◌++◌, is_some, length, reverse}
 use Rattle.std.specs.List.{filter_map, list_all}
 use Rattle.small_front.specs.Forms.{element_of}
 use Rattle.small_front.proofs.preferences.elements_of.Given as goal
 
--- what is found of all is what was found and what is found of the rest
-abbrev pub invariant-loop-element : goal.invariant-loop-element
-invariant-loop-element l =
-    (list_all (λ x. is_some (element_of x)) l.elements ≡ list_all (λ x. is_some (element_of x)) (drop l.element-index l.elements))
-    × (filter_map element_of l.elements ≡ l.small ++ filter_map element_of (drop l.element-index l.elements))
+-- all are small if those that are left are, and what stands for all is what stands for them, and what was found, from the last to the first
+abbrev pub invariant-elements : goal.invariant-elements
+invariant-elements l =
+    (list_all (λ x. is_some (element_of x)) l.initial.elements ≡ list_all (λ x. is_some (element_of x)) l.elements)
+    × (filter_map element_of l.initial.elements ≡ filter_map element_of l.elements ++ reverse l.small.items)
+
+abbrev pub decreases-elements : goal.decreases-elements
+decreases-elements l = length l.elements

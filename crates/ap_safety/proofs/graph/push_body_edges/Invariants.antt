@@ -1,7 +1,0 @@
-use Rattle.std.proofs.Common.{◌≡◌, ◌++◌, drop, map}
-use Rattle.ap_safety.specs.Tables.{place_in}
-use Rattle.ap_safety.specs.Graphs.{body_edge}
-use Rattle.ap_safety.proofs.graph.push_body_edges.Given as goal
-
-abbrev pub invariant-loop-pred : goal.invariant-loop-pred
-invariant-loop-pred l = l.initial.edges ++ map (body_edge (place_in l.table.keys) l.node) l.preds ≡ l.edges ++ map (body_edge (place_in l.table.keys) l.node) (drop l.pred-index l.preds)

@@ -1,7 +1,0 @@
-use Rattle.std.proofs.Common.{◌≡◌, ◌++◌, drop, map}
-use Rattle.ap_safety.specs.Tables.{place_in}
-use Rattle.ap_safety.specs.Graphs.{condition_edge}
-use Rattle.ap_safety.proofs.graph.push_condition_edges.Given as goal
-
-abbrev pub invariant-loop-pred : goal.invariant-loop-pred
-invariant-loop-pred l = l.initial.edges ++ map (condition_edge (place_in l.table.keys) l.atom) l.preds ≡ l.edges ++ map (condition_edge (place_in l.table.keys) l.atom) (drop l.pred-index l.preds)

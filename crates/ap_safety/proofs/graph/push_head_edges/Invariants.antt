@@ -1,7 +1,0 @@
-use Rattle.std.proofs.Common.{◌≡◌, ◌++◌, drop, map}
-use Rattle.ap_safety.specs.Tables.{place_in}
-use Rattle.ap_safety.specs.Graphs.{head_edge}
-use Rattle.ap_safety.proofs.graph.push_head_edges.Given as goal
-
-abbrev pub invariant-loop-pred : goal.invariant-loop-pred
-invariant-loop-pred l = l.initial.edges ++ map (head_edge (place_in l.table.keys) l.node) l.preds ≡ l.edges ++ map (head_edge (place_in l.table.keys) l.node) (drop l.pred-index l.preds)

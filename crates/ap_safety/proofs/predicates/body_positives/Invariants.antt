@@ -1,6 +1,0 @@
-use Rattle.std.proofs.Common.{◌≡◌, ◌++◌, drop, flat_map}
-use Rattle.ap_safety.specs.Predicates.{item_positives}
-use Rattle.ap_safety.proofs.predicates.body_positives.Given as goal
-
-abbrev pub invariant-loop-item : goal.invariant-loop-item
-invariant-loop-item l = l.initial.preds ++ flat_map item_positives l.body ≡ l.preds ++ flat_map item_positives (drop l.item-index l.body)

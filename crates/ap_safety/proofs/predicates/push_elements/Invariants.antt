@@ -1,6 +1,0 @@
-use Rattle.std.proofs.Common.{◌≡◌, ◌++◌, drop, map}
-use Rattle.ap_safety.specs.Predicates.{element_pred}
-use Rattle.ap_safety.proofs.predicates.push_elements.Given as goal
-
-abbrev pub invariant-loop-element : goal.invariant-loop-element
-invariant-loop-element l = l.initial.preds ++ map element_pred l.elements ≡ l.preds ++ map element_pred (drop l.element-index l.elements)

@@ -1,6 +1,0 @@
-use Rattle.std.proofs.Common.{◌≡◌, ◌++◌, drop}
-use Rattle.ap_safety.specs.Predicates.{preds_of}
-use Rattle.ap_safety.proofs.predicates.push_literals.Given as goal
-
-abbrev pub invariant-loop-literal : goal.invariant-loop-literal
-invariant-loop-literal l = l.initial.preds ++ preds_of l.literals ≡ l.preds ++ preds_of (drop l.literal-index l.literals)

@@ -1,8 +1,0 @@
-use Rattle.std.proofs.Common.{◌≡◌, List, ℕ, [], length, All}
-use Rattle.ap_safety.proofs.rows.empty_rows.Given as goal
-
-abbrev pub invariant-loop : goal.invariant-loop
-invariant-loop l = record {
-  size : length l.rows.items ≡ l.counter;
-  none : All (λ (list : List ℕ). list ≡ []) l.rows.items;
-}

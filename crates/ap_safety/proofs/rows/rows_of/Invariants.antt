@@ -1,6 +1,0 @@
-use Rattle.std.proofs.Common.{take}
-use Rattle.ap_safety.specs.Graphs.{AreRows}
-use Rattle.ap_safety.proofs.rows.rows_of.Given as goal
-
-abbrev pub invariant-loop-edge : goal.invariant-loop-edge
-invariant-loop-edge l = AreRows l.nodes (take l.edge-index l.edges) l.rows.items

@@ -1,8 +1,0 @@
-use Rattle.std.proofs.Common.{◌∙◌, sym}
-use Rattle.ap_safety.specs.Tables.{is_pred}
-use Rattle.ap_safety.proofs.PlaceLemmas.{none_place}
-use Rattle.ap_safety.proofs.table.place_of.Goals as goal
-
-pub returns-in-None : goal.returns-in-None
-returns-in-None c =
-    c.len.ensures.len ∙ sym (none_place (is_pred c.args.pred.now) c.args.table.now.keys (sym c.get_index_of.ensures.index ∙ c.in-None.is))

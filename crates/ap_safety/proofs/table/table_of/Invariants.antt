@@ -1,8 +1,0 @@
-use Rattle.std.proofs.Common.{◌≡◌, [], drop, flat_map}
-use Rattle.indexmap.specs.IndexSet.{insert_all}
-use Rattle.ap_safety.specs.Predicates.{rule_preds}
-use Rattle.ap_safety.specs.Tables.{is_pred}
-use Rattle.ap_safety.proofs.table.table_of.Given as goal
-
-abbrev pub invariant-loop-rule : goal.invariant-loop-rule
-invariant-loop-rule l = insert_all is_pred [] (flat_map rule_preds l.rules) ≡ insert_all is_pred l.table.keys (flat_map rule_preds (drop l.rule-index l.rules))

@@ -1,0 +1,5 @@
+pub mod Walks
+pub mod Predicates
+pub mod Graphs
+pub mod Tables
+pub mod Components

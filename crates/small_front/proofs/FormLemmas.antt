@@ -1,0 +1,30 @@
+-- Lists that are taken apart from their ends.
+use Rattle.std.proofs.Common.{◌≡◌, Bool, true, false, ◌&&◌, List, [], ◌∷◌, ◌++◌, Option, None, Some, is_some, reverse, refl, sym, ap, ◌∙◌, append_assoc}
+use Rattle.std.specs.List.{cons_option, filter_map, list_all}
+use Rattle.std.proofs.lemmas.List.{append-nil, reverse-append}
+use Rattle.std.proofs.lemmas.List.Elements.{filter_map-append}
+use Rattle.std.proofs.lemmas.List.Folds.{list_all-append}
+
+and-true : (b : Bool) → (b && true) ≡ b
+and-true true = refl
+and-true false = refl
+
+-- all have a small tree if those have one that are left behind one that has
+pub small-more : {X Y : Type 0} (h : X → Option Y) (all old rest : List X) (last : X) (y : Y) → list_all (λ x. is_some (h x)) all ≡ list_all (λ x. is_some (h x)) old → old ≡ rest ++ last ∷ [] → Some y ≡ h last → list_all (λ x. is_some (h x)) all ≡ list_all (λ x. is_some (h x)) rest
+small-more {X} h all old rest last y before taken found =
+    let p : X → Bool = λ x. is_some (h x) in
+    before ∙ (ap (list_all p) taken ∙ (list_all-append p rest (last ∷ []) ∙ (ap (λ o. list_all p rest && (is_some o && true)) (sym found) ∙ and-true (list_all p rest))))
+
+-- what is found of the last stands before what was found
+pub found-more : {X Y : Type 0} (h : X → Option Y) (all old rest : List X) (last : X) (y : Y) (small new : List Y) → filter_map h all ≡ filter_map h old ++ reverse small → old ≡ rest ++ last ∷ [] → Some y ≡ h last → new ≡ small ++ y ∷ [] → filter_map h all ≡ filter_map h rest ++ reverse new
+found-more h all old rest last y small new before taken found pushed =
+    let split = filter_map-append h rest (last ∷ []) ∙ ap (λ o. filter_map h rest ++ cons_option o []) (sym found) in
+    let turned : reverse new ≡ y ∷ reverse small = ap reverse pushed ∙ reverse-append small (y ∷ []) in
+    before ∙ (ap (λ xs. filter_map h xs ++ reverse small) taken ∙ (ap (λ ys. ys ++ reverse small) split
+    ∙ (append_assoc (filter_map h rest) (y ∷ []) (reverse small) ∙ ap (λ ys. filter_map h rest ++ ys) (sym turned))))
+
+-- nothing is found of the last
+pub found-none : {X Y : Type 0} (h : X → Option Y) (all old rest : List X) (last : X) (small : List Y) → filter_map h all ≡ filter_map h old ++ reverse small → old ≡ rest ++ last ∷ [] → None ≡ h last → filter_map h all ≡ filter_map h rest ++ reverse small
+found-none h all old rest last small before taken found =
+    let split = filter_map-append h rest (last ∷ []) ∙ (ap (λ o. filter_map h rest ++ cons_option o []) (sym found) ∙ append-nil (filter_map h rest)) in
+    before ∙ (ap (λ xs. filter_map h xs ++ reverse small) taken ∙ ap (λ ys. ys ++ reverse small) split)
