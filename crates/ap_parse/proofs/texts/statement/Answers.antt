@@ -19,7 +19,7 @@ returns-in_err-statement c =
     let text = c.args.text.now in
     let rest = take_rest c.args.tokens.now c.args.from in
     statement_fault c.is_of_type.ensures
-    (c.in_ok-tokenized.ensures.tokens ∙ ap (lexemes_of text 0) c.in_ok-copied.ensures ∙ c.up_to_dot-front.ensures.front ∙ ap (λ ts. statement_of (lexemes_of text 0 ts)) rest)
+    (c.in_ok-tokenized.ensures.tokens ∙ ap (lexemes_of text 0) c.in_ok-copied.ensures.items ∙ c.up_to_dot-front.ensures.front ∙ ap (λ ts. statement_of (lexemes_of text 0 ts)) rest)
     c.in_ok-tokenized.ensures.end c.in_ok-tokenized.ensures.cut c.in_err-statement.ensures c.from_residual-in_err-statement.ensures.1
 
 pub returns : goal.returns
@@ -27,6 +27,6 @@ returns c =
     let text = c.args.text.now in
     let rest = take_rest c.args.tokens.now c.args.from in
     statement_read c.is_of_type.ensures
-    (c.in_ok-tokenized.ensures.tokens ∙ ap (lexemes_of text 0) c.in_ok-copied.ensures ∙ c.up_to_dot-front.ensures.front ∙ ap (λ ts. statement_of (lexemes_of text 0 ts)) rest)
+    (c.in_ok-tokenized.ensures.tokens ∙ ap (lexemes_of text 0) c.in_ok-copied.ensures.items ∙ c.up_to_dot-front.ensures.front ∙ ap (λ ts. statement_of (lexemes_of text 0 ts)) rest)
     c.in_ok-tokenized.ensures.end c.in_ok-tokenized.ensures.cut
     (c.up_to_dot-front.ensures.len ∙ ap (λ ts. statement_len (lexemes_of text 0 ts)) rest) c.in_ok-statement.ensures
