@@ -96,6 +96,14 @@ const UNBOUND: &[Line] = &[
     },
 ];
 
+/// `p(X) :- not q(X).`
+const UNBOUND_ALONE: &[Line] = &[Line {
+    choice: false,
+    heads: &["p"],
+    body: &[(false, "q")],
+    variable: true,
+}];
+
 fn only<T: Drop>(alloc: Global, item: T) -> Result<Items<T>, AllocError> {
     let mut items = Items::new(alloc);
     items.push(item)?;
@@ -212,7 +220,7 @@ fn outcome(alloc: Global, lines: &[Line], base: bool) -> Result<Want, AllocError
 #[test]
 fn worked_rows(rt: HostRuntime) -> Result<(), Fail> {
     let alloc = rt.alloc();
-    let table: [(&[Line], bool, Want); 7] = [
+    let table: [(&[Line], bool, Want); 8] = [
         (RING, true, Want::Accepted),
         (RING, false, Want::Recursion(0)),
         (OWN_HEAD, true, Want::Recursion(1)),
@@ -220,10 +228,63 @@ fn worked_rows(rt: HostRuntime) -> Result<(), Fail> {
         (EVEN, false, Want::Recursion(0)),
         (TWO_HEADS, true, Want::Accepted),
         (UNBOUND, true, Want::Unsafe(1)),
+        (UNBOUND_ALONE, true, Want::Unsafe(0)),
     ];
     for (lines, base, want) in table {
         assert_eq!(rt; outcome(alloc, lines, base)?, want);
     }
+    Ok(())
+}
+
+/// The first variable that is not bound.
+fn unbound(alloc: Global, lines: &[Line]) -> Result<Text, AllocError> {
+    let rules = rules(alloc, lines)?;
+    match check(alloc, rules.as_slice(), &[], true) {
+        Err(SafetyFault::Unsafe { variable, .. }) => Ok(variable),
+        _ => Err(AllocError),
+    }
+}
+
+#[test]
+fn the_variable_that_is_not_bound(rt: HostRuntime) -> Result<(), Fail> {
+    let variable = unbound(rt.alloc(), UNBOUND_ALONE)?;
+    assert_eq!(rt; variable.as_str(), "X");
+    Ok(())
+}
+
+/// `preference(X,_)`
+fn of_a_preference(alloc: Global) -> Result<Literal, AllocError> {
+    let mut terms = only(alloc, variable(alloc)?)?;
+    terms.push(Term::Any)?;
+    Ok(Literal::Pos(applied(alloc, "preference", terms)?))
+}
+
+/// `preference(X,_), not better(X)`
+fn is_not_better(alloc: Global) -> Result<Items<BodyItem>, AllocError> {
+    let mut body = only(alloc, BodyItem::Plain(of_a_preference(alloc)?))?;
+    let not_better = literal(alloc, false, "better", true)?;
+    body.push(BodyItem::Plain(not_better))?;
+    Ok(body)
+}
+
+/// `better(X) :- preference(X,_), not better(X).`
+fn better(alloc: Global) -> Result<Vec<Rule>, AllocError> {
+    let head = atom(alloc, "better", true)?;
+    let body = is_not_better(alloc)?;
+    let rule = Rule {
+        file: 1,
+        at: 0,
+        head: HeadForm::One(head),
+        body,
+    };
+    Ok(vec![in alloc; rule]?)
+}
+
+#[test]
+fn a_type_through_its_own_negation(rt: HostRuntime) -> Result<(), Fail> {
+    let alloc = rt.alloc();
+    let rules = better(alloc)?;
+    assert_eq!(rt; answer(alloc, rules.as_slice(), false)?, Want::Recursion(0));
     Ok(())
 }
 

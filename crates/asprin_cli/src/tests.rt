@@ -331,30 +331,34 @@ fn words_files_and_faults(rt: HostRuntime) -> Result<(), Fail> {
     Ok(())
 }
 
-/// What a run over so many spaces answers, where these calls of the source fail.
-fn run_blanks(alloc: Global, count: usize, fails: &[u64]) -> Result<Status, AllocError> {
+/// Whether a run over so many spaces answers this status and writes these lines, where these calls of the source fail.
+fn passes_blanks(
+    alloc: Global,
+    count: usize,
+    fails: &[u64],
+    status: Status,
+    lines: &str,
+) -> Result<bool, AllocError> {
     let text = vec![in alloc; b' '; count]?;
+    let words = words_of(alloc, &ONE_FILE)?;
     let mut src = source_of(alloc, &text, &[], fails)?;
     let mut out = MemSink::new(alloc, 100, Vec::new(alloc))?;
     let mut cert = MemSink::new(alloc, 0, Vec::new(alloc))?;
-    Ok(solve_run(
-        alloc,
-        &words_of(alloc, &ONE_FILE)?,
-        &mut src,
-        &mut out,
-        &mut cert,
-    ))
+    let found = solve_run(alloc, &words, &mut src, &mut out, &mut cert);
+    Ok(found == status && out.bytes() == lines.as_bytes())
 }
 
 #[test]
 fn largest_text(rt: HostRuntime) -> Result<(), Fail> {
-    assert_eq!(rt; run_blanks(rt.alloc(), 16_777_216, &[])?, Status::Done);
+    let lines = "OPTIMUM 1:\nDONE 1\n";
+    assert!(rt; passes_blanks(rt.alloc(), 16_777_216, &[], Status::Done, lines)?);
     Ok(())
 }
 
 /// The limit is answered at the read that brings the byte too many: the call after it would fail.
 #[test]
 fn too_large_a_text(rt: HostRuntime) -> Result<(), Fail> {
-    assert_eq!(rt; run_blanks(rt.alloc(), 16_790_000, &[4098])?, Status::Limit);
+    let lines = "LIMIT bytes 16777216\n";
+    assert!(rt; passes_blanks(rt.alloc(), 16_777_217, &[4098], Status::Limit, lines)?);
     Ok(())
 }

@@ -24,7 +24,7 @@ pub fn depth_of_a_formula()
     ensures commas { (s : Levels) (read rest : List Lexeme) (f : Formula) → IsFormula s read rest f → (scan s read).level.commas ≡ s.level.commas }
 {}
 
-/// Where a formula ends and no `&` follows, its limit stands exactly if the depth of its tree is more than 64.
+/// Where a formula ends and no `&` follows, what the scan has come to is beyond the limit exactly if the depth of its tree is more than 64.
 pub fn limit_of_a_formula()
     ensures deep { (s : Levels) (read rest : List Lexeme) (f : Formula) (next : Role) → IsFormula s read rest f → next ≢ roles.And → 64 < depth f → formula_limit (scan s read).level next ≡ Some limits.Formula }
     ensures within { (s : Levels) (read rest : List Lexeme) (f : Formula) (next : Role) → IsFormula s read rest f → depth f ≤ 64 → formula_limit (scan s read).level next ≡ None }
@@ -32,7 +32,8 @@ pub fn limit_of_a_formula()
     ensures part { (s : Levels) (read rest : List Lexeme) (f : Formula) (next : Role) → IsConjunction s read rest f → 64 < depth f → formula_limit (scan s read).level next ≡ Some limits.Formula }
 {}
 
-/// At the tokens of a formula, its parts among them, a limit of formulas stands exactly if the depth of its tree is more than 64.
+/// At the tokens of a formula, its parts among them, a limit of formulas stands exactly if the depth of its tree is more than 64, where neither
+/// a `&` nor a `(` follows.
 pub fn limit_in_a_formula()
     // Behind a formula stands no `&`, which would go on with it, and no `(`, which would go on with its last atom.
     ensures deep { (s : Levels) (read rest : List Lexeme) (f : Formula) → IsFormula s read rest f → next_role rest ≢ roles.And → next_role rest ≢ roles.Open → 64 < depth f → Stands s read rest }
