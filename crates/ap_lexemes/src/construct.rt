@@ -1,5 +1,5 @@
 // Constructs that are not supported.
-ghost use Rattle.std.specs.Prelude.{◌≡◌};
+ghost use Rattle.std.specs.Prelude.{◌≡◌, Some};
 ghost use Rattle.ap_lexemes.specs.Constructs.{name_of};
 
 use std::fmt;
@@ -80,6 +80,8 @@ impl Construct {
 }
 
 impl fmt::Display for Construct {
+    ghost output = { λ c. Some (name_of c) };
+
     fn fmt<W: fmt::Write>(&self, f: &mut fmt::Formatter<W>) -> fmt::Result {
         f.write_str(self.name())
     }

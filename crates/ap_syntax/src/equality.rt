@@ -21,28 +21,33 @@ impl Atom {
     }
 }
 
+// A loop along the first operands, as a chain of operators is as deep as it is long.
 #[cycle(equals)]
 fn same_term(one: &Term, other: &Term) -> bool
     ensures { IsTrue result ↔ (one.now ≡ other.now) }
 {
-    match (one, other) {
-        (Term::Int(a), Term::Int(b)) => *a == *b,
-        (Term::Str(a), Term::Str(b)) => *a == *b,
-        (Term::Const(a), Term::Const(b)) => *a == *b,
-        (Term::Var(a), Term::Var(b)) => *a == *b,
-        (Term::Any, Term::Any) => true,
-        (Term::Fun(a, s), Term::Fun(b, t)) => *a == *b && same_terms(s.as_slice(), t.as_slice()),
-        (Term::Tuple(s), Term::Tuple(t)) => same_terms(s.as_slice(), t.as_slice()),
-        (Term::Minus(a), Term::Minus(b)) => same_term(a.get(), b.get()),
-        (Term::Sum(a, o, b), Term::Sum(c, p, d)) => *o == *p
-            && same_term(a.get(), c.get())
-            && same_term(b.get(), d.get()),
-        (Term::Product(a, o, b), Term::Product(c, p, d)) => *o == *p
-            && same_term(a.get(), c.get())
-            && same_term(b.get(), d.get()),
-        (Term::Range(a, b), Term::Range(c, d)) => same_term(a.get(), c.get())
-            && same_term(b.get(), d.get()),
-        _ => false,
+    let mut one = one;
+    let mut other = other;
+    loop {
+        match (one, other) {
+            (Term::Int(a), Term::Int(b)) => return *a == *b,
+            (Term::Str(a), Term::Str(b)) => return *a == *b,
+            (Term::Const(a), Term::Const(b)) => return *a == *b,
+            (Term::Var(a), Term::Var(b)) => return *a == *b,
+            (Term::Any, Term::Any) => return true,
+            (Term::Fun(a, s), Term::Fun(b, t)) => return *a == *b
+                && same_terms(s.as_slice(), t.as_slice()),
+            (Term::Tuple(s), Term::Tuple(t)) => return same_terms(s.as_slice(), t.as_slice()),
+            (Term::Minus(a), Term::Minus(b)) => (one, other) = (a.get(), b.get()),
+            (Term::Sum(a, o, b), Term::Sum(c, p, d)) if *o == *p && same_term(b.get(), d.get()) => (
+                one, other,
+            ) = (a.get(), c.get()),
+            (Term::Product(a, o, b), Term::Product(c, p, d))
+                if *o == *p && same_term(b.get(), d.get()) => (one, other) = (a.get(), c.get()),
+            (Term::Range(a, b), Term::Range(c, d)) if same_term(b.get(), d.get()) => (one, other) =
+                (a.get(), c.get()),
+            _ => return false,
+        }
     }
 }
 

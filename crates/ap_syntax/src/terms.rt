@@ -40,7 +40,7 @@ pub enum Rel {
 }
 
 /// A term, as it is written. A term in parentheses is that term, so no tree has parentheses.
-#[derive(Debug, Drop)]
+#[derive(Debug)]
 pub enum Term {
     /// A number as it is written, from 0 to 2,147,483,647. A negative one is the `Minus` of a number.
     Int(i64),
@@ -64,6 +64,39 @@ pub enum Term {
     Product(Boxed<Term>, ProductOp, Boxed<Term>),
     /// An interval `a..b`, whose values are all integers from the one end to the other.
     Range(Boxed<Term>, Boxed<Term>),
+}
+
+/// A term is let go by a loop along its first operands: a chain of operators, as `1 + 2 + 3`, is as deep as it is long, and a call for each of
+/// its operands could use up the stack.
+impl Drop for Term {
+    fn drop(mut self) {
+        loop {
+            match self {
+                Term::Int(_) | Term::Any => return,
+                Term::Str(_text) | Term::Const(_text) | Term::Var(_text) => return,
+                Term::Fun(_name, terms) => return let_go(terms),
+                Term::Tuple(terms) => return let_go(terms),
+                Term::Minus(part) => self = part.into_inner(),
+                Term::Sum(left, _, right) => {
+                    let _right = right.into_inner();
+                    self = left.into_inner();
+                }
+                Term::Product(left, _, right) => {
+                    let _right = right.into_inner();
+                    self = left.into_inner();
+                }
+                Term::Range(low, high) => {
+                    let _high = high.into_inner();
+                    self = low.into_inner();
+                }
+            }
+        }
+    }
+}
+
+/// Lets go of items.
+fn let_go<T: Drop>(items: Items<T>) {
+    let _items = items;
 }
 
 /// An atom: a predicate's name with its arguments.

@@ -60,6 +60,25 @@ fn summed(alloc: Global, left: Term, op: SumOp, right: Term) -> Result<Term, All
     Ok(Term::Sum(left, op, Boxed::new(alloc, right)?))
 }
 
+/// `1 + 1 + .. + 1`, with a million operators.
+fn long_sum(alloc: Global) -> Result<Term, AllocError> {
+    let mut sum = Term::Int(1);
+    for _ in 0..1_000_000 {
+        sum = summed(alloc, sum, SumOp::Plus, Term::Int(1))?;
+    }
+    Ok(sum)
+}
+
+#[test]
+fn compares_and_lets_go_of_long_chains(rt: HostRuntime) -> Result<(), Fail> {
+    let alloc = rt.alloc();
+    let one = long_sum(alloc)?;
+    let other = summed(alloc, long_sum(alloc)?, SumOp::Less, Term::Int(1))?;
+    assert!(rt; one.equals(&one));
+    assert!(rt; !one.equals(&other));
+    Ok(())
+}
+
 /// `#const c = value.`
 fn declared(alloc: Global, value: Term) -> Result<Statement, AllocError> {
     Ok(Statement::Const {
