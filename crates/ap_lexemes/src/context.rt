@@ -4,19 +4,19 @@ ghost use Rattle.ap_lexemes.specs.Constructs.{begun, behind, in_force, preferrin
 
 use ap_grammar::Terminal;
 
-// What stands behind some tokens of a text.
+/// What stands behind some tokens of a text.
 #[derive(Clone, Copy, Debug)]
 pub struct Context {
-    // How many parentheses of the statement are open.
+    /// How many parentheses of the statement are open.
     pub parentheses: usize,
-    // Whether a type's part is in force.
+    /// Whether a type's part is in force.
     pub of_type: bool,
-    // Of a `#program` statement that has not ended, whether it opens a type's part.
+    /// Of a `#program` statement that has not ended, whether it opens a type's part.
     pub opening: Option<bool>,
 }
 
 impl Context {
-    // At the beginning of a statement, where no `#program` has begun.
+    /// At the beginning of a statement, where no `#program` has begun.
     pub fn new(of_type: bool) -> Context
         ensures { result ≡ begun of_type }
     {
@@ -27,7 +27,7 @@ impl Context {
         }
     }
 
-    // Behind one more token.
+    /// Behind one more token.
     pub fn behind(self, token: Terminal) -> Context
         requires { self.parentheses + 1 < 2 ^ 64 }
         ensures { result ≡ behind self token }

@@ -17,18 +17,18 @@ const MOST_COMMAS: u8 = 31;
 // How deep a formula may be.
 const MOST_DEEP: u8 = 64;
 
-// A level. The depth of a formula is 0 where there is none.
+/// A level. The depth of a formula is 0 where there is none.
 #[derive(Clone, Copy, Debug)]
 pub struct Level {
-    // The commas directly in its parentheses; outside of all parentheses they are not counted.
+    /// The commas directly in its parentheses; outside of all parentheses they are not counted.
     pub commas: u8,
-    // The depth of what stands before the last `|` of the formula at this level.
+    /// The depth of what stands before the last `|` of the formula at this level.
     pub disjunction: u8,
-    // The depth of what stands behind that `|`, and before the last `&` behind it.
+    /// The depth of what stands behind that `|`, and before the last `&` behind it.
     pub conjunction: u8,
-    // Whether `not` stands before the last member.
+    /// Whether `not` stands before the last member.
     pub negated: bool,
-    // The depth of the last member, with its `not`.
+    /// The depth of the last member, with its `not`.
     pub member: u8,
 }
 
@@ -170,8 +170,8 @@ impl Level {
     }
 }
 
-// The levels of a statement, from the one outside of all parentheses to the innermost one. Contracts see the levels around
-// the innermost one from the inside.
+/// The levels of a statement, from the one outside of all parentheses to the innermost one. Contracts see the levels around
+/// the innermost one from the inside.
 #[derive(Drop)]
 pub struct Levels {
     level: Level,
@@ -188,6 +188,7 @@ impl Model for Levels {
 }
 
 impl Levels {
+    /// The levels at the beginning of a statement: that outside of all parentheses.
     pub fn new(alloc: Global) -> Levels
         ensures { result ≡ no_levels }
     {
@@ -197,7 +198,8 @@ impl Levels {
         }
     }
 
-    // Goes on behind a token, or answers the limit that stands at it.
+    /// Goes on behind a token, or answers the limit that stands at it. It answers nothing where none does, and fails for want
+    /// of memory alone.
     pub fn read(&mut self, token: Role, next: Role) -> Result<Option<Limit>, AllocError>
         ensures found { IfOk result (λ found. found ≡ limit_at self.old token next) }
         ensures behind { IfOk result (Goes (after self.old token) self.new) }

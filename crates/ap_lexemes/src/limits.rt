@@ -11,8 +11,8 @@ use crate::role::{Role, role_of};
 use crate::terminals::terminal;
 use std::alloc::{AllocError, Global};
 
-/// The first limit that the tokens of a text go beyond, or nothing. It looks at the tokens alone, and says the same of every
-/// text that goes on behind the token after that limit.
+/// The first limit that the tokens of a text go beyond, or nothing where they go beyond none. It looks at the tokens alone, and
+/// says the same of every text that goes on behind the token after that limit. It fails for want of memory alone.
 pub fn first_limit(alloc: Global, lexemes: Lexemes<'_>) -> Result<Option<LimitAt>, AllocError>
     ensures found { IfOk result (λ found. found ≡ first_limit (listed lexemes.entry)) }
     ensures within { IfOk result (λ found. IfSome found (λ limit. limit.index < length (listed lexemes.entry))) }

@@ -15,7 +15,7 @@ use crate::terminals::terminal;
 use ap_lex::{Kind, Token};
 
 impl<'a> Lexemes<'a> {
-    /// These tokens of a text. `file` is the number of its file.
+    /// These tokens of a text, of which each must be a token at its place. `file` is the number of its file. It never fails.
     pub fn new(text: &'a str, tokens: &'a [Token], file: u32) -> Lexemes<'a>
         requires { All (λ token. IsToken text.now token.kind token.from token.to) tokens.now }
         ensures { listed result ≡ lexemes_of text.now file tokens.now }
@@ -48,7 +48,7 @@ impl<'a> Lexemes<'a> {
         self.tokens[index].from
     }
 
-    /// So many of them, from the first one on.
+    /// So many of them, from the first one on. There must be so many.
     pub fn front(self, count: usize) -> Lexemes<'a>
         requires { count ≤ length (listed self) }
         ensures { listed result ≡ take count (listed self.entry) }

@@ -4,10 +4,10 @@ ghost use Rattle.ap_lexemes.specs.Limits.{role_of};
 
 use ap_grammar::Terminal;
 
-// What a token does to the parentheses and the formulas of a statement.
+/// What a token does to the parentheses and the formulas of a statement.
 #[derive(Clone, Copy, Debug, PartialEq, Eq)]
 pub enum Role {
-    // A name, as an atom begins.
+    /// A name, as an atom begins.
     Name,
     Not,
     And,
@@ -16,10 +16,11 @@ pub enum Role {
     Close,
     Comma,
     Dot,
-    // Any other token, or the end of the text. It ends the formulas at its level.
+    /// Any other token, or the end of the text. It ends the formulas at its level.
     Other,
 }
 
+/// What a token of this kind does.
 pub fn role_of(terminal: Terminal) -> Role
     ensures { result ≡ role_of terminal }
 {

@@ -15,7 +15,8 @@ use crate::lexemes::Lexemes;
 use crate::limit::LimitAt;
 use crate::naming::construct_of;
 
-/// The tokens up to a limit, with that at which it stands, or all of them.
+/// The tokens up to a limit, with that at which it stands, or all of them where there is none. The limit must stand at one of
+/// the tokens.
 pub fn up_to(lexemes: Lexemes<'_>, limit: Option<LimitAt>) -> Lexemes<'_>
     requires { IfSome limit (λ l. l.index < length (listed lexemes)) }
     ensures { listed result ≡ up_to limit (listed lexemes.entry) }
@@ -26,7 +27,8 @@ pub fn up_to(lexemes: Lexemes<'_>, limit: Option<LimitAt>) -> Lexemes<'_>
     }
 }
 
-/// The fault behind all tokens up to a limit: that limit, or else the place behind all tokens.
+/// The fault behind all tokens up to a limit: `Limit` at the token of that limit, which must be one of the tokens, or else
+/// `Syntax` at `end`, the place behind all tokens.
 pub fn last_fault(lexemes: Lexemes<'_>, limit: Option<LimitAt>, end: u32) -> ParseFault
     requires { IfSome limit (λ l. l.index < length (listed lexemes)) }
     ensures { result ≡ last_fault limit (listed lexemes.entry) end }
@@ -41,7 +43,9 @@ pub fn last_fault(lexemes: Lexemes<'_>, limit: Option<LimitAt>, end: u32) -> Par
 }
 
 /// The fault of a text of which so many tokens were read, up to the first limit or before it, and the next token goes on with
-/// no text. `end` is the place behind all tokens.
+/// no text. At that token it is `Unsupported` if a construct begins there that is not supported, and else `Syntax`. Where no
+/// token is left before the limit it is the fault behind them all, as `last_fault` has it. The limit must stand at one of the
+/// tokens. `end` is the place behind all tokens.
 pub fn fault_behind(
     of_type: bool,
     lexemes: Lexemes<'_>,

@@ -18,14 +18,14 @@ use literal_parse::{Cursor, Stop, is_term_start, read_optional_condition, read_t
 use sqlite_items::{Boxed, Items};
 use std::alloc::Global;
 
-// An aggregate with the guard behind it.
+/// An aggregate with the guard behind it.
 #[derive(Debug, Drop)]
 pub struct Aggregate {
-    // What is computed.
+    /// What is computed.
     pub function: Function,
-    // The elements between the braces.
+    /// The elements between the braces.
     pub elements: Items<AggElement>,
-    // The guard behind the braces.
+    /// The guard behind the braces.
     pub right: Option<Boxed<Guard>>,
 }
 
@@ -46,7 +46,7 @@ fn is_aggregate_start(terminal: Terminal) -> bool
     matches!(terminal, Terminal::Count | Terminal::Sum)
 }
 
-// Whether the next token begins an aggregate.
+/// Whether the next token begins an aggregate.
 pub fn begins_aggregate(tokens: &Cursor<'_>) -> bool
     ensures { Tells (call names.Aggregate) tokens.now result }
 {
@@ -118,7 +118,9 @@ fn read_function(tokens: &mut Cursor<'_>) -> Result<Function, Stop>
     }
 }
 
-// An aggregate, with a guard behind it or none.
+/// An aggregate, with a guard behind it or none.
+///
+/// `Syntax` comes where the next token goes on with no aggregate; `Memory` for want of memory alone.
 pub fn read_aggregate(alloc: Global, tokens: &mut Cursor<'_>) -> Result<Aggregate, Stop>
     ensures read { Reads aggregate_form IsAggregate tokens.old tokens.new result }
     ensures shorter { length tokens.new ≤ length tokens.old }

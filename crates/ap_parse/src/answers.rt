@@ -20,6 +20,10 @@ use std::alloc::Global;
 
 /// What the tokens of a text come to, by what reading them up to the first limit came to and how many of those are left.
 /// `of_type` tells whether the text begins in a type's part.
+///
+/// `Memory` comes where reading stopped for want of memory. `Syntax`, `Unsupported` and `Limit` name the fault at the next
+/// token, or behind them all: they come where reading stopped there, and where it did not but a token, a limit or bytes are
+/// left.
 pub fn answer<T: Drop>(
     tokenized: &Tokenized<'_>,
     of_type: bool,
@@ -53,8 +57,10 @@ pub fn is_of_type(part: &PartKind) -> bool
     }
 }
 
-/// The program of a file that begins in a part, by what reading its tokens up to the first limit came to and how many of
-/// those are left. It leaves out each `#program` that opens the part already in force.
+/// The program of a file that begins in a part, by what reading its tokens up to the first limit came to and how many of those
+/// are left. It leaves out each `#program` that opens the part already in force.
+///
+/// The errors are those of `answer`, and `Memory` for want of memory.
 pub fn program(
     alloc: Global,
     tokenized: &Tokenized<'_>,

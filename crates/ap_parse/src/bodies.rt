@@ -192,7 +192,10 @@ fn separates(tokens: &mut Cursor<'_>, last: &BodyItem) -> bool
     }
 }
 
-// A body: one item or more, with separators between them.
+/// A body: one item or more, with separators between them.
+///
+/// `Syntax` comes where the next token, at first or behind a separator, goes on with no item; `Memory` for want of memory
+/// alone.
 pub fn read_body(alloc: Global, tokens: &mut Cursor<'_>) -> Result<Items<BodyItem>, Stop>
     ensures read { Reads (call names.Body) IsBody tokens.old tokens.new result }
     ensures shorter { length tokens.new ≤ length tokens.old }

@@ -82,7 +82,8 @@ fn reversed(alloc: Global, mut statements: Items<Statement>) -> Result<Items<Sta
     Ok(Items::from_vec(all))
 }
 
-/// The statements without each `#program` that opens the part already in force, which is at first this one.
+/// The statements without each `#program` that opens the part already in force, which is at first this one. It fails for want
+/// of memory alone.
 pub fn changing(
     alloc: Global,
     first: PartKind,

@@ -76,7 +76,9 @@ fn read_braced(alloc: Global, tokens: &mut Cursor<'_>) -> Result<Items<ChoiceEle
     Ok(elements)
 }
 
-// A choice behind its left guard, or with none.
+/// A choice behind its left guard, or with none. `left` is that guard.
+///
+/// `Syntax` comes where the next token goes on with no choice behind its left guard; `Memory` for want of memory alone.
 pub fn read_choice(
     alloc: Global,
     tokens: &mut Cursor<'_>,

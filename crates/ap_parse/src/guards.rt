@@ -41,7 +41,9 @@ fn begins_guard(tokens: &Cursor<'_>) -> bool
     }
 }
 
-// A guard behind the braces: its relation, or none for `<=`, and its term.
+/// A guard behind the braces: its relation, or none for `<=`, and its term.
+///
+/// `Syntax` comes where the next token goes on with no such guard; `Memory` for want of memory alone.
 pub fn read_right_guard(alloc: Global, tokens: &mut Cursor<'_>) -> Result<Guard, Stop>
     ensures read { Reads (call names.RightGuard) IsRightGuard tokens.old tokens.new result }
     ensures shorter { length tokens.new ≤ length tokens.old }
@@ -54,7 +56,9 @@ pub fn read_right_guard(alloc: Global, tokens: &mut Cursor<'_>) -> Result<Guard,
     })
 }
 
-// A guard behind the braces, or none.
+/// A guard behind the braces. Where none begins it answers nothing, and no token is read.
+///
+/// `Syntax` comes where a guard begins and the next token does not go on with it; `Memory` for want of memory alone.
 pub fn read_optional_guard(
     alloc: Global,
     tokens: &mut Cursor<'_>,

@@ -25,7 +25,7 @@ fn is_head_start(terminal: Terminal) -> bool
     }
 }
 
-// Whether the next token begins a head.
+/// Whether the next token begins a head.
 pub fn begins_head(tokens: &Cursor<'_>) -> bool
     ensures { Tells (call names.Head) tokens.now result }
 {
@@ -45,7 +45,9 @@ fn begins_term(tokens: &Cursor<'_>) -> bool
     }
 }
 
-// A head that derives something: an atom, or a choice with its left guard, whose relation may be missing for `<=`, or none.
+/// A head that derives something: an atom, or a choice with its left guard, whose relation may be missing for `<=`, or none.
+///
+/// `Syntax` comes where the next token goes on with no such head; `Memory` for want of memory alone.
 pub fn read_head(alloc: Global, tokens: &mut Cursor<'_>) -> Result<HeadForm, Stop>
     ensures read { Reads (call names.Head) (IsHead tokens.old) tokens.old tokens.new result }
     ensures shorter { length tokens.new ≤ length tokens.old }

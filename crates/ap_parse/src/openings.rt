@@ -64,6 +64,8 @@ fn joined(
 }
 
 /// The type of a preference: a name, alone or with another one in parentheses.
+///
+/// `Syntax` comes where the next token goes on with no such type; `Memory` for want of memory alone.
 pub fn read_kind(alloc: Global, tokens: &mut Cursor<'_>) -> Result<Text, Stop>
     ensures read { Reads (call names.Kind) IsKind tokens.old tokens.new result }
     ensures shorter { length tokens.new ≤ length tokens.old }
@@ -98,6 +100,8 @@ fn read_part(alloc: Global, tokens: &mut Cursor<'_>) -> Result<PartKind, Stop>
 }
 
 /// A `#program`.
+///
+/// `Syntax` comes where the next token goes on with no `#program`; `Memory` for want of memory alone.
 pub fn read_opening(alloc: Global, tokens: &mut Cursor<'_>) -> Result<Opening, Stop>
     ensures read { Reads opening_form IsOpening tokens.old tokens.new result }
     ensures shorter { length tokens.new ≤ length tokens.old }
@@ -108,7 +112,9 @@ pub fn read_opening(alloc: Global, tokens: &mut Cursor<'_>) -> Result<Opening, S
     Ok(Opening { place, part })
 }
 
-// One statement, or a `#program`.
+/// One statement, in a type's part or not, or a `#program`.
+///
+/// `Syntax` comes where the next token goes on with neither; `Memory` for want of memory alone.
 pub fn read_one(alloc: Global, tokens: &mut Cursor<'_>, of_type: bool) -> Result<Statement, Stop>
     ensures read { Reads (call (names.One of_type)) IsStatement tokens.old tokens.new result }
     ensures shorter { length tokens.new ≤ length tokens.old }

@@ -70,7 +70,9 @@ fn read_constraint(alloc: Global, tokens: &mut Cursor<'_>) -> Result<Rule, Stop>
     })
 }
 
-// A rule. In a type's part its head is an atom.
+/// A rule. In a type's part its head is an atom.
+///
+/// `Syntax` comes where the next token goes on with no such rule; `Memory` for want of memory alone.
 pub fn read_rule(alloc: Global, tokens: &mut Cursor<'_>, of_type: bool) -> Result<Rule, Stop>
     ensures read { Reads (call (names.Rule of_type)) IsRule tokens.old tokens.new result }
     ensures shorter { length tokens.new ≤ length tokens.old }

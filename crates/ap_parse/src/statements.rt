@@ -194,6 +194,8 @@ fn read_const(alloc: Global, tokens: &mut Cursor<'_>) -> Result<Statement, Stop>
 }
 
 /// A statement other than a preference statement and `#optimize`, in a type's part or not.
+///
+/// `Syntax` comes where the next token goes on with no such statement; `Memory` for want of memory alone.
 pub fn read_statement(
     alloc: Global,
     tokens: &mut Cursor<'_>,

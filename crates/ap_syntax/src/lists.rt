@@ -3,7 +3,7 @@ ghost use Rattle.std.specs.Prelude.{◌≡◌};
 
 use sqlite_items::Items;
 
-/// The items of a list, in a block of their length.
+/// The items of a list. The code asks for a block of their length; the contract sees the items alone, not the block.
 pub fn fitted<T>(mut items: Vec<T>) -> Items<T>
     ensures { result ≡ items.items }
 {

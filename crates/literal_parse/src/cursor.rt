@@ -158,7 +158,8 @@ impl<'a> Cursor<'a> {
         }
     }
 
-    /// Reads a token of this kind.
+    /// Reads a token of this kind. `Syntax` comes where the next token is of another kind or none is left, and no token is
+    /// read.
     pub fn expect(&mut self, wanted: Terminal) -> Result<(), Stop>
         ensures read { Reads (Tok wanted) IsAny self.old self.new result }
         ensures shorter { length self.new ≤ length self.old }
@@ -183,7 +184,9 @@ impl<'a> Cursor<'a> {
         self.take(Terminal::Preference)
     }
 
-    /// Reads a name.
+    /// Reads a name: a word, `base` or `preference`.
+    ///
+    /// `Syntax` comes where none of these comes next; `Memory` for want of memory alone.
     pub fn name(&mut self, alloc: Global) -> Result<Text, Stop>
         ensures read { Reads (call names.Ident) (IsName self.old) self.old self.new result }
         ensures shorter { length self.new ≤ length self.old }

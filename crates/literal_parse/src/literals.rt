@@ -82,6 +82,9 @@ fn begins_literals(tokens: &Cursor<'_>) -> bool
 }
 
 /// An atom.
+///
+/// `Syntax` comes where no name comes next, or behind it the next token goes on with no arguments that have begun; `Memory` for
+/// want of memory alone.
 pub fn read_atom(alloc: Global, tokens: &mut Cursor<'_>) -> Result<Atom, Stop>
     ensures read { Reads (call names.Atom) (IsAtom tokens.old) tokens.old tokens.new result }
     ensures shorter { length tokens.new ≤ length tokens.old }
@@ -91,7 +94,10 @@ pub fn read_atom(alloc: Global, tokens: &mut Cursor<'_>) -> Result<Atom, Stop>
     Ok(Atom { name, terms })
 }
 
-// A literal.
+/// A literal.
+///
+/// `Syntax` comes where the next token goes on with no literal: also behind a term that is no atom, if no relation follows;
+/// `Memory` for want of memory alone.
 pub fn read_literal(alloc: Global, tokens: &mut Cursor<'_>) -> Result<Literal, Stop>
     ensures read { Reads (call names.Literal) (IsLiteral tokens.old) tokens.old tokens.new result }
     ensures shorter { length tokens.new ≤ length tokens.old }
@@ -112,6 +118,8 @@ pub fn read_literal(alloc: Global, tokens: &mut Cursor<'_>) -> Result<Literal, S
 }
 
 /// One literal or more, with commas between them.
+///
+/// `Syntax` comes where the next token, at first or behind a comma, goes on with no literal; `Memory` for want of memory alone.
 pub fn read_literals(alloc: Global, tokens: &mut Cursor<'_>) -> Result<Items<Literal>, Stop>
     ensures read { Reads (call names.Literals) IsLiterals tokens.old tokens.new result }
     ensures shorter { length tokens.new ≤ length tokens.old }
@@ -127,6 +135,9 @@ pub fn read_literals(alloc: Global, tokens: &mut Cursor<'_>) -> Result<Items<Lit
 }
 
 /// A condition: a colon, and literals or none.
+///
+/// `Syntax` comes where no colon comes next, or the next token does not go on with literals that begin behind it; `Memory` for
+/// want of memory alone.
 pub fn read_condition(alloc: Global, tokens: &mut Cursor<'_>) -> Result<Items<Literal>, Stop>
     ensures read { Reads (call names.Condition) IsCondition tokens.old tokens.new result }
     ensures shorter { length tokens.new ≤ length tokens.old }
@@ -139,7 +150,10 @@ pub fn read_condition(alloc: Global, tokens: &mut Cursor<'_>) -> Result<Items<Li
     }
 }
 
-/// A condition, or none. Where none stands there the list is empty.
+/// A condition, or none. Where no colon comes next the list is empty, and no token is read.
+///
+/// `Syntax` comes where a colon comes next and the next token does not go on with literals that begin behind it; `Memory` for
+/// want of memory alone.
 pub fn read_optional_condition(
     alloc: Global,
     tokens: &mut Cursor<'_>,

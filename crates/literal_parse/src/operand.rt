@@ -25,7 +25,7 @@ impl Operand {
         }
     }
 
-    /// The atom, where it may be one.
+    /// The atom, where it may be one. `Syntax` comes where it is any other term; no other error comes.
     pub fn into_atom(self) -> Result<Atom, Stop>
         ensures { BareOr self result }
     {

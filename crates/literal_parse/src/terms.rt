@@ -19,7 +19,7 @@ use ap_syntax::{Atom, ProductOp, SumOp, Term, Text, fitted};
 use sqlite_items::{Boxed, Items};
 use std::alloc::Global;
 
-// Reads `+` or `-`, if one comes next.
+/// Reads `+` or `-`, if one comes next. Where neither does it answers nothing, and no token is read.
 pub fn sum_sign(tokens: &mut Cursor<'_>) -> Option<SumOp>
     ensures { Signs tokens.old tokens.new result }
 {
@@ -32,7 +32,7 @@ pub fn sum_sign(tokens: &mut Cursor<'_>) -> Option<SumOp>
     }
 }
 
-// Reads `*`, `/` or `\`, if one comes next.
+/// Reads `*`, `/` or `\`, if one comes next. Where none does it answers nothing, and no token is read.
 pub fn product_sign(tokens: &mut Cursor<'_>) -> Option<ProductOp>
     ensures { Factors tokens.old tokens.new result }
 {
@@ -47,7 +47,9 @@ pub fn product_sign(tokens: &mut Cursor<'_>) -> Option<ProductOp>
     }
 }
 
-// A term, with an interval or without.
+/// A term, with an interval or without.
+///
+/// `Syntax` comes where the next token goes on with no term; `Memory` for want of memory alone.
 #[cycle(terms)]
 pub fn read_term(alloc: Global, tokens: &mut Cursor<'_>) -> Result<Operand, Stop>
     ensures read { Reads (call names.Term) (IsOperand tokens.old) tokens.old tokens.new result }
@@ -63,6 +65,9 @@ pub fn read_term(alloc: Global, tokens: &mut Cursor<'_>) -> Result<Operand, Stop
     Ok(Operand::Other(Term::Range(left, right)))
 }
 
+/// A product, or several with `+` and `-` between them. Chains are nested to the left: `a-b-c` is `(a-b)-c`.
+///
+/// `Syntax` comes where the next token goes on with no sum; `Memory` for want of memory alone.
 #[cycle(terms)]
 pub fn read_sum(alloc: Global, tokens: &mut Cursor<'_>) -> Result<Operand, Stop>
     ensures read { Reads (call names.Sum) (IsOperand tokens.old) tokens.old tokens.new result }
@@ -78,6 +83,9 @@ pub fn read_sum(alloc: Global, tokens: &mut Cursor<'_>) -> Result<Operand, Stop>
     Ok(sum)
 }
 
+/// A unary term, or several with `*`, `/` and `\` between them. Chains are nested to the left: `a/b/c` is `(a/b)/c`.
+///
+/// `Syntax` comes where the next token goes on with no product; `Memory` for want of memory alone.
 #[cycle(terms)]
 pub fn read_product(alloc: Global, tokens: &mut Cursor<'_>) -> Result<Operand, Stop>
     ensures read { Reads (call names.Product) (IsOperand tokens.old) tokens.old tokens.new result }
@@ -93,6 +101,9 @@ pub fn read_product(alloc: Global, tokens: &mut Cursor<'_>) -> Result<Operand, S
     Ok(product)
 }
 
+/// A primary term, with `-` before it or without.
+///
+/// `Syntax` comes where the next token goes on with no such term; `Memory` for want of memory alone.
 #[cycle(terms)]
 pub fn read_unary(alloc: Global, tokens: &mut Cursor<'_>) -> Result<Operand, Stop>
     ensures read { Reads (call names.Unary) (IsOperand tokens.old) tokens.old tokens.new result }
@@ -106,6 +117,9 @@ pub fn read_unary(alloc: Global, tokens: &mut Cursor<'_>) -> Result<Operand, Sto
     Ok(Operand::Other(Term::Minus(negated)))
 }
 
+/// A number, a string, a variable, `_`, a name with arguments or without, a term in parentheses, or a tuple.
+///
+/// `Syntax` comes where the next token goes on with no such term; `Memory` for want of memory alone.
 #[cycle(terms)]
 pub fn read_primary(alloc: Global, tokens: &mut Cursor<'_>) -> Result<Operand, Stop>
     ensures read { Reads (call names.Primary) (IsOperand tokens.old) tokens.old tokens.new result }
@@ -141,7 +155,9 @@ fn read_group(alloc: Global, tokens: &mut Cursor<'_>) -> Result<Term, Stop>
     read_tuple(alloc, tokens, first.into_term())
 }
 
-// What stands behind the first member of a tuple and its comma.
+/// The tuple whose first member and its comma were read: what stands behind them, up to the `)`. `first` is that member.
+///
+/// `Syntax` comes where the next token goes on with no such tuple; `Memory` for want of memory alone.
 #[cycle(terms)]
 pub fn read_tuple(alloc: Global, tokens: &mut Cursor<'_>, first: Term) -> Result<Term, Stop>
     ensures read { Reads behind_comma (IsTuple first) tokens.old tokens.new result }
@@ -157,7 +173,9 @@ pub fn read_tuple(alloc: Global, tokens: &mut Cursor<'_>, first: Term) -> Result
     Ok(Term::Tuple(all))
 }
 
-// The arguments of a name in their parentheses, or none.
+/// The arguments of a name in their parentheses. Where no `(` comes next the list is empty, and no token is read.
+///
+/// `Syntax` comes where behind a `(` the next token goes on with no arguments; `Memory` for want of memory alone.
 #[cycle(terms)]
 pub fn read_arguments(alloc: Global, tokens: &mut Cursor<'_>) -> Result<Items<Term>, Stop>
     ensures read { Reads (opt (call names.Arguments)) IsArguments tokens.old tokens.new result }
@@ -171,7 +189,9 @@ pub fn read_arguments(alloc: Global, tokens: &mut Cursor<'_>) -> Result<Items<Te
     Ok(terms)
 }
 
-// One term or more behind those that were read before, with commas between them.
+/// One term or more behind those that were read before, with commas between them: all of these in order.
+///
+/// `Syntax` comes where the next token, at first or behind a comma, goes on with no term; `Memory` for want of memory alone.
 #[cycle(terms)]
 pub fn read_terms(
     alloc: Global,

@@ -99,7 +99,9 @@ fn push_rule_edges(
     push_element_edges(alloc, table, choice_elements(&rule.head), edges)
 }
 
-/// The edges of the graph of these rules. Their nodes stand behind those of the predicates of the table.
+/// The edges of the graph of these rules. Their nodes stand behind those of the predicates of the table, in the order of the
+/// rules. It answers want of memory also where `pred_of` does for an atom of theirs, and where the number behind a rule's node
+/// is no `usize`.
 pub fn edges_of(
     alloc: Global,
     table: &IndexSet<Pred>,

@@ -54,7 +54,7 @@ impl Hash for Pred {
 }
 
 impl Pred {
-    /// An equal predicate.
+    /// An equal predicate. It fails for want of memory alone.
     pub fn copy(&self, alloc: Global) -> Result<Pred, AllocError>
         ensures { IfOk result (λ p. p ≡ self.now) }
     {
@@ -65,7 +65,8 @@ impl Pred {
     }
 }
 
-/// The predicate of an atom.
+/// The predicate of an atom. It fails for want of memory alone; an atom of 2^32 arguments or more, whose number is no `u32`,
+/// answers that too.
 pub fn pred_of(alloc: Global, atom: &Atom) -> Result<Pred, AllocError>
     ensures { IfOk result (λ p. p ≡ predicate_of atom.now) }
 {

@@ -63,7 +63,7 @@ fn push_positives(
     Ok(())
 }
 
-/// The predicates of a condition.
+/// The predicates of a condition. It fails where `pred_of` fails for one of the atoms, or for want of memory.
 pub fn condition_preds_of(alloc: Global, literals: &[Literal]) -> Result<Items<Pred>, AllocError>
     ensures { IfOk result (λ preds. preds ≡ preds_of literals.now) }
 {
@@ -72,7 +72,8 @@ pub fn condition_preds_of(alloc: Global, literals: &[Literal]) -> Result<Items<P
     Ok(preds)
 }
 
-/// The predicates of the positive literals of a condition.
+/// The predicates of the positive literals of a condition. It fails where `pred_of` fails for one of the atoms, or for want of
+/// memory.
 pub fn condition_positives_of(
     alloc: Global,
     literals: &[Literal],
@@ -154,7 +155,8 @@ fn push_body(alloc: Global, preds: &mut Items<Pred>, body: &[BodyItem]) -> Resul
     Ok(())
 }
 
-/// The predicates that a body mentions, in whatever way.
+/// The predicates that a body mentions, in whatever way. It fails where `pred_of` fails for one of the atoms, or for want of
+/// memory.
 pub fn body_preds(alloc: Global, body: &[BodyItem]) -> Result<Items<Pred>, AllocError>
     ensures { IfOk result (λ preds. preds ≡ flat_map item_preds body.now) }
 {
@@ -163,7 +165,8 @@ pub fn body_preds(alloc: Global, body: &[BodyItem]) -> Result<Items<Pred>, Alloc
     Ok(preds)
 }
 
-/// The predicates of the positive literals of a body outside aggregates.
+/// The predicates of the positive literals of a body outside aggregates. It fails where `pred_of` fails for one of the atoms,
+/// or for want of memory.
 pub fn body_positives(alloc: Global, body: &[BodyItem]) -> Result<Items<Pred>, AllocError>
     ensures { IfOk result (λ preds. preds ≡ flat_map item_positives body.now) }
 {
@@ -174,7 +177,8 @@ pub fn body_positives(alloc: Global, body: &[BodyItem]) -> Result<Items<Pred>, A
     Ok(preds)
 }
 
-/// The predicates that the aggregates of a body mention.
+/// The predicates that the aggregates of a body mention. It fails where `pred_of` fails for one of the atoms, or for want of
+/// memory.
 pub fn body_aggregates(alloc: Global, body: &[BodyItem]) -> Result<Items<Pred>, AllocError>
     ensures { IfOk result (λ preds. preds ≡ flat_map aggregate_preds body.now) }
 {
@@ -219,7 +223,7 @@ fn push_heads(alloc: Global, preds: &mut Items<Pred>, head: &HeadForm) -> Result
     }
 }
 
-/// The predicates of the atoms of a head.
+/// The predicates of the atoms of a head. It fails where `pred_of` fails for one of the atoms, or for want of memory.
 pub(crate) fn head_preds(alloc: Global, head: &HeadForm) -> Result<Items<Pred>, AllocError>
     ensures { IfOk result (λ preds. preds ≡ heads_of head.now) }
 {
@@ -228,7 +232,8 @@ pub(crate) fn head_preds(alloc: Global, head: &HeadForm) -> Result<Items<Pred>, 
     Ok(preds)
 }
 
-/// The predicates of the atoms of a choice; none for another head.
+/// The predicates of the atoms of a choice; none for another head. It fails where `pred_of` fails for one of the atoms, or for
+/// want of memory.
 pub fn choice_preds(alloc: Global, head: &HeadForm) -> Result<Items<Pred>, AllocError>
     ensures { IfOk result (λ preds. preds ≡ choices_of head.now) }
 {
@@ -254,7 +259,7 @@ fn push_conditions(
     Ok(())
 }
 
-/// All predicates that a rule mentions.
+/// All predicates that a rule mentions. It fails where `pred_of` fails for one of the atoms, or for want of memory.
 pub(crate) fn mentioned(alloc: Global, rule: &Rule) -> Result<Items<Pred>, AllocError>
     ensures { IfOk result (λ preds. preds ≡ rule_preds rule.now) }
 {

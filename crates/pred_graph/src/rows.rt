@@ -37,7 +37,8 @@ fn rows_of(alloc: Global, nodes: usize, edges: &[Edge]) -> Result<Vec<Items<usiz
     Ok(rows)
 }
 
-/// A number for each node: that of its component.
+/// A number for each node: that of its component. Each edge must lie between nodes below `nodes`. It fails for want of memory
+/// alone.
 pub fn numbers_of(alloc: Global, nodes: usize, edges: &[Edge]) -> Result<Items<u64>, AllocError>
     requires { All (IsEdgeBelow nodes) edges.now }
     ensures { IfOk result (AreNumbers nodes edges.now) }

@@ -33,7 +33,8 @@ fn note_all(alloc: Global, table: &mut IndexSet<Pred>, preds: &[Pred]) -> Result
     Ok(())
 }
 
-/// The predicates that the rules mention, each once, in the order in which they come.
+/// The predicates that the rules mention, each once, in the order in which they come. It fails where `pred_of` fails for one of
+/// the atoms, or for want of memory.
 pub fn table_of(alloc: Global, rules: &[Rule]) -> Result<IndexSet<Pred>, AllocError>
     ensures { IfOk result (λ table. table.keys ≡ insert_all is_pred [] (flat_map rule_preds rules.now)) }
 {
@@ -55,7 +56,7 @@ pub fn place_of(table: &IndexSet<Pred>, pred: &Pred) -> usize
     }
 }
 
-/// The numbers of these predicates.
+/// The numbers of these predicates. It fails for want of memory alone.
 pub(crate) fn places_of(
     alloc: Global,
     table: &IndexSet<Pred>,

@@ -87,7 +87,9 @@ fn read_row(alloc: Global, tokens: &mut Cursor<'_>) -> Result<Items<Element>, St
     Ok(fitted(elements))
 }
 
-// The elements of a statement, in their braces.
+/// The elements of a statement, in their braces.
+///
+/// `Syntax` comes where the next token goes on with no such elements; `Memory` for want of memory alone.
 pub fn read_elements(alloc: Global, tokens: &mut Cursor<'_>) -> Result<Items<Element>, Stop>
     ensures read { Reads in_braces IsElements tokens.old tokens.new result }
     ensures shorter { length tokens.new ≤ length tokens.old }

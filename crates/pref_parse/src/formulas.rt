@@ -40,7 +40,9 @@ fn disjunction(mut members: Items<Formula>) -> Formula
     }
 }
 
-// A formula.
+/// A formula.
+///
+/// `Syntax` comes where the next token goes on with no formula; `Memory` for want of memory alone.
 #[cycle(formulas)]
 pub fn read_formula(alloc: Global, tokens: &mut Cursor<'_>) -> Result<Formula, Stop>
     ensures read { Reads (call names.Formula) (IsFormula tokens.old) tokens.old tokens.new result }
@@ -50,7 +52,9 @@ pub fn read_formula(alloc: Global, tokens: &mut Cursor<'_>) -> Result<Formula, S
     read_disjuncts(alloc, tokens, first)
 }
 
-// What stands behind the first conjunction of a formula, joined to it.
+/// What stands behind the first conjunction of a formula, joined to it. Where no `|` comes next it is that conjunction itself.
+///
+/// `Syntax` comes where the next token behind a `|` goes on with no conjunction; `Memory` for want of memory alone.
 #[cycle(formulas)]
 pub fn read_disjuncts(
     alloc: Global,
@@ -78,7 +82,9 @@ fn read_conjunction(alloc: Global, tokens: &mut Cursor<'_>) -> Result<Formula, S
     read_conjuncts(alloc, tokens, first)
 }
 
-// What stands behind the first member of a conjunction, joined to it.
+/// What stands behind the first member of a conjunction, joined to it. Where no `&` comes next it is that member itself.
+///
+/// `Syntax` comes where the next token behind an `&` goes on with no member; `Memory` for want of memory alone.
 #[cycle(formulas)]
 pub fn read_conjuncts(
     alloc: Global,
@@ -109,7 +115,9 @@ fn read_member(alloc: Global, tokens: &mut Cursor<'_>) -> Result<Formula, Stop>
     read_unit(alloc, tokens)
 }
 
-// An atom, or a formula in parentheses.
+/// An atom, or a formula in parentheses.
+///
+/// `Syntax` comes where the next token goes on with neither; `Memory` for want of memory alone.
 #[cycle(formulas)]
 pub fn read_unit(alloc: Global, tokens: &mut Cursor<'_>) -> Result<Formula, Stop>
     ensures read { Reads unit (IsUnit tokens.old) tokens.old tokens.new result }
@@ -131,7 +139,7 @@ fn is_connective(terminal: Terminal) -> bool
     matches!(terminal, Terminal::And | Terminal::Or)
 }
 
-// Whether the next token goes on with a formula behind its first member.
+/// Whether the next token goes on with a formula behind its first member.
 pub fn begins_connective(tokens: &Cursor<'_>) -> bool
     ensures { Tells formula_rest tokens.now result }
 {
@@ -141,7 +149,9 @@ pub fn begins_connective(tokens: &Cursor<'_>) -> bool
     }
 }
 
-// The rest of a formula behind its first member.
+/// The rest of a formula behind its first member, joined to it. Where no connective comes next it is that member itself.
+///
+/// `Syntax` comes where the next token behind a connective goes on with no formula; `Memory` for want of memory alone.
 pub fn read_formula_rest(
     alloc: Global,
     tokens: &mut Cursor<'_>,

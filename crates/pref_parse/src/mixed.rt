@@ -18,14 +18,14 @@ use literal_parse::{Cursor, Operand, Stop, read_arguments, read_primary, read_tu
 use sqlite_items::{Boxed, Items};
 use std::alloc::Global;
 
-// What was read of a term or a formula.
+/// What was read of a term or a formula.
 #[derive(Debug, Drop)]
 pub enum Mixed {
-    // An atom, in any number of parentheses: it may be a term or a formula.
+    /// An atom, in any number of parentheses: it may be a term or a formula.
     Either(Atom),
-    // Any other formula.
+    /// Any other formula.
     Formed(Formula),
-    // Any other term.
+    /// Any other term.
     Other(Term),
 }
 
@@ -62,7 +62,9 @@ fn begins_simple(tokens: &Cursor<'_>) -> bool
     }
 }
 
-// A term or a formula.
+/// A term or a formula.
+///
+/// `Syntax` comes where the next token goes on with neither; `Memory` for want of memory alone.
 #[cycle(mixed)]
 pub fn read_mixed(alloc: Global, tokens: &mut Cursor<'_>) -> Result<Mixed, Stop>
     ensures read { Reads (Call parts.Mixed) (IsMixed tokens.old) tokens.old tokens.new result }

@@ -31,7 +31,8 @@ fn is_operator(terminal: Terminal) -> bool
     )
 }
 
-// Whether the next token goes on with a term behind its first primary term.
+/// Whether the next token goes on with a term behind its first primary term: it is `*`, `/`, `\`, `+`, `-` or `..`. Where no
+/// token is left it is not. It never fails.
 pub fn begins_operator(tokens: &Cursor<'_>) -> bool
     ensures { Tells term_more tokens.now result }
 {
@@ -85,7 +86,9 @@ fn read_range(alloc: Global, tokens: &mut Cursor<'_>, low: Term) -> Result<Term,
     Ok(Term::Range(left, right))
 }
 
-// The rest of a term behind its first primary term.
+/// The rest of a term behind its first primary term, joined to it. Where no operator comes next it is that term itself.
+///
+/// `Syntax` comes where the next token behind an operator goes on with no operand; `Memory` for want of memory alone.
 pub fn read_term_rest(alloc: Global, tokens: &mut Cursor<'_>, first: Term) -> Result<Term, Stop>
     ensures read { Reads term_rest (Operates first) tokens.old tokens.new result }
     ensures shorter { length tokens.new ≤ length tokens.old }

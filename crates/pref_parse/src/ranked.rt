@@ -30,7 +30,9 @@ fn unweighed(alloc: Global, target: Target) -> Ranked
     }
 }
 
-// A rank.
+/// A rank.
+///
+/// `Syntax` comes where the next token goes on with no rank; `Memory` for want of memory alone.
 pub fn read_ranked(alloc: Global, tokens: &mut Cursor<'_>) -> Result<Ranked, Stop>
     ensures read { Reads (call names.Ranked) (IsRanked tokens.old) tokens.old tokens.new result }
     ensures shorter { length tokens.new ≤ length tokens.old }

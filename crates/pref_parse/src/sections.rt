@@ -50,7 +50,11 @@ fn read_section(
     read_statements(alloc, tokens, of_type, statements)
 }
 
-/// A whole text that begins in a type's part or not: its statements and each `#program`, in order.
+/// A whole text that begins in a type's part or not: its statements and each `#program`, in order. It stops before the first
+/// token that begins neither.
+///
+/// `Syntax` comes where the next token does not go on with a statement or `#program` that has begun; `Memory` for want of
+/// memory alone.
 pub fn read_text(
     alloc: Global,
     tokens: &mut Cursor<'_>,

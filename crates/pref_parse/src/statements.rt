@@ -27,7 +27,7 @@ fn is_start(terminal: Terminal, of_type: bool) -> bool
     }
 }
 
-// Whether the next token begins a statement of any kind.
+/// Whether the next token begins a statement of any kind.
 pub fn begins_any(tokens: &Cursor<'_>, of_type: bool) -> bool
     ensures { Tells (call (names.Statement true of_type)) tokens.now result }
 {
@@ -78,7 +78,9 @@ fn read_optimize(alloc: Global, tokens: &mut Cursor<'_>) -> Result<Statement, St
     })
 }
 
-// A statement of any kind, in a type's part or not.
+/// A statement of any kind, in a type's part or not.
+///
+/// `Syntax` comes where the next token goes on with no such statement; `Memory` for want of memory alone.
 pub fn read_any(alloc: Global, tokens: &mut Cursor<'_>, of_type: bool) -> Result<Statement, Stop>
     ensures read { Reads (call (names.Statement true of_type)) IsStatement tokens.old tokens.new result }
     ensures shorter { length tokens.new ≤ length tokens.old }
