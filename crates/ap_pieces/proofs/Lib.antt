@@ -1,3 +1,4 @@
 mod TermLemmas
+mod ChainLemmas
 mod PieceLemmas
 mod FormulaLemmas

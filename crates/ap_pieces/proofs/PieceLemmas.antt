@@ -3,7 +3,6 @@ use Rattle.std.proofs.Common.{◌≡◌, refl, sym, ◌∙◌, ap, List, ℕ}
 use Rattle.ap_syntax.specs.declared.terms.Term.{Term, out-Term, roll-Term, roll-out-Term}
 use Rattle.ap_syntax.specs.declared.terms.Term.TheVariants as terms
 use Rattle.ap_syntax.specs.declared.terms.Term.TheOpen.{Term-F}
-use Rattle.ap_pieces.specs.declared.pieces.Side.{Side}
 use Rattle.ap_pieces.specs.declared.pieces.Side.TheVariants.{Variable, Any, Compound}
 use Rattle.ap_pieces.specs.Variables.{occurrences}
 use denote.Hole.Carrier.{out}

@@ -1,6 +1,5 @@
 -- The occurrences in the parts of a term, in their place.
 use Rattle.std.proofs.Common.{◌≡◌, refl, sym, ◌∙◌, ap, Bool, true, false, ◌&&◌, List, [], ◌∷◌, ◌++◌, append_assoc, map, ℕ}
-use Rattle.std.proofs.lemmas.List.{map-append}
 use Rattle.ap_syntax.specs.declared.terms.Term.{Term, fold-roll-Term}
 use Rattle.ap_syntax.specs.declared.terms.Term.TheVariants as terms
 use Rattle.ap_syntax.specs.declared.terms.Term.TheOpen.{Term-F}
@@ -54,3 +53,14 @@ of_product free found l op r = both_under free found (terms.Product l op r) l r 
 
 pub of_range : (free : Bool) (found : List Occurrence) (l r : Term) → found ++ placed free (occurrences (terms.Range l r)) ≡ (found ++ placed false (occurrences l)) ++ placed false (occurrences r)
 of_range free found l r = both_under free found (terms.Range l r) l r (ap (λ u. placed free (occurrences u)) (sym (terms.rolls-Range l r)) ∙ ap (placed free) (fold-roll-Term (List Occurrence) step (Term-F.Range l r)))
+
+-- ---- along the first operands
+
+pub first_of_sum : (l : Term) (op : SumOp) (r : Term) → placed false (occurrences (terms.Sum l op r)) ≡ placed false (occurrences l) ++ placed false (occurrences r)
+first_of_sum l op r = of_sum false [] l op r
+
+pub first_of_product : (l : Term) (op : ProductOp) (r : Term) → placed false (occurrences (terms.Product l op r)) ≡ placed false (occurrences l) ++ placed false (occurrences r)
+first_of_product l op r = of_product false [] l op r
+
+pub first_of_range : (l r : Term) → placed false (occurrences (terms.Range l r)) ≡ placed false (occurrences l) ++ placed false (occurrences r)
+first_of_range l r = of_range false [] l r

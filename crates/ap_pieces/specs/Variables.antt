@@ -1,5 +1,5 @@
 -- The variables of terms.
-use Rattle.std.specs.Prelude.{◌≡◌, ℕ, Bool, true, false, List, [], ◌∷◌, ◌++◌, map, flat_map, Option, Some, None}
+use Rattle.std.specs.Prelude.{true, false, List, [], ◌∷◌, ◌++◌, map, flat_map, Some, None}
 use Rattle.ap_syntax.specs.declared.terms.Term.{Term, fold-Term}
 use Rattle.ap_syntax.specs.declared.terms.Term.TheOpen.{Term-F}
 use Rattle.ap_pieces.specs.declared.variables.Occurrence.{Occurrence}

@@ -1,5 +1,6 @@
 // The variables of terms.
-ghost use Rattle.std.specs.Prelude.{◌≡◌, ◌++◌, false, OnOk, IfOk};
+ghost use Rattle.std.specs.Prelude.{◌≡◌, ◌++◌, ◌≤◌, All, false, map, reverse, OnOk, IfOk};
+ghost use Rattle.ap_syntax.specs.declared.terms.Term.{size-Term};
 ghost use Rattle.ap_pieces.specs.Variables.{occurrences, occurrences_of};
 ghost use Rattle.ap_pieces.specs.Placed.{placed};
 
@@ -16,9 +17,52 @@ pub struct Occurrence {
     pub is_argument: bool,
 }
 
+/// The terms at the ends of a chain of operators, the last one first: the first operand and those on the right of an operator. A chain is as
+/// deep as it is long, so this is a loop.
+fn operands<'a>(alloc: Global, term: &'a Term) -> Result<Vec<&'a Term>, AllocError>
+    ensures occurrences { IfOk result (λ ts. placed false (occurrences term.now) ≡ placed false (occurrences_of (reverse (map (λ t. t.now) ts.items)))) }
+    ensures inside { IfOk result (λ ts. All (λ t. size-Term t.now ≤ size-Term term.now) ts.items) }
+{
+    let mut found = Vec::new(alloc);
+    let mut first = term;
+    loop {
+        match first {
+            Term::Minus(part) => first = part.get(),
+            Term::Sum(left, _, right) => {
+                found.push(right.get())?;
+                first = left.get();
+            }
+            Term::Product(left, _, right) => {
+                found.push(right.get())?;
+                first = left.get();
+            }
+            Term::Range(low, high) => {
+                found.push(high.get())?;
+                first = low.get();
+            }
+            _ => {
+                found.push(first)?;
+                return Ok(found);
+            }
+        }
+    }
+}
+
+/// Adds the occurrences in an operand, none of which is an argument.
+#[cycle(occurrences)]
+fn push_operand(alloc: Global, found: &mut Items<Occurrence>, term: &Term) -> Result<(), AllocError>
+    ensures { OnOk result (found.new ≡ found.old ++ placed false (occurrences term.now)) }
+{
+    let mut parts = operands(alloc, term)?;
+    while let Some(part) = parts.pop() {
+        push_term(alloc, found, part, false)?;
+    }
+    Ok(())
+}
+
 /// Adds the occurrences in the term. They are arguments only if the term stands where an argument may.
 #[cycle(occurrences)]
-#[tactic(auto, using(crate::proofs::TermLemmas::of_fun, crate::proofs::TermLemmas::of_tuple, crate::proofs::TermLemmas::of_minus, crate::proofs::TermLemmas::of_sum, crate::proofs::TermLemmas::of_product, crate::proofs::TermLemmas::of_range))]
+#[tactic(auto, using(crate::proofs::TermLemmas::of_fun, crate::proofs::TermLemmas::of_tuple, crate::proofs::TermLemmas::of_minus, crate::proofs::TermLemmas::of_sum, crate::proofs::TermLemmas::of_product, crate::proofs::TermLemmas::of_range, crate::proofs::ChainLemmas::part_of_minus, crate::proofs::ChainLemmas::left_of_sum, crate::proofs::ChainLemmas::right_of_sum, crate::proofs::ChainLemmas::left_of_product, crate::proofs::ChainLemmas::right_of_product, crate::proofs::ChainLemmas::low_of_range, crate::proofs::ChainLemmas::high_of_range))]
 fn push_term(
     alloc: Global,
     found: &mut Items<Occurrence>,
@@ -44,18 +88,18 @@ fn push_term(
         }),
         Term::Fun(_, terms) => push_terms(alloc, found, terms.as_slice(), free),
         Term::Tuple(terms) => push_terms(alloc, found, terms.as_slice(), free),
-        Term::Minus(term) => push_term(alloc, found, term.get(), false),
+        Term::Minus(term) => push_operand(alloc, found, term.get()),
         Term::Sum(left, _, right) => {
-            push_term(alloc, found, left.get(), false)?;
-            push_term(alloc, found, right.get(), false)
+            push_operand(alloc, found, left.get())?;
+            push_operand(alloc, found, right.get())
         }
         Term::Product(left, _, right) => {
-            push_term(alloc, found, left.get(), false)?;
-            push_term(alloc, found, right.get(), false)
+            push_operand(alloc, found, left.get())?;
+            push_operand(alloc, found, right.get())
         }
         Term::Range(low, high) => {
-            push_term(alloc, found, low.get(), false)?;
-            push_term(alloc, found, high.get(), false)
+            push_operand(alloc, found, low.get())?;
+            push_operand(alloc, found, high.get())
         }
     }
 }

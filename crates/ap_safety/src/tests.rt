@@ -377,6 +377,28 @@ fn next(alloc: Global) -> Result<Term, AllocError> {
     Ok(Term::Sum(left, SumOp::Plus, Boxed::new(alloc, Term::Int(1))?))
 }
 
+/// `X+1+1+..+1`, with a hundred thousand operators.
+fn long_sum(alloc: Global) -> Result<Term, AllocError> {
+    let mut sum = variable(alloc)?;
+    for _ in 0..100_000 {
+        let left = Boxed::new(alloc, sum)?;
+        sum = Term::Sum(left, SumOp::Plus, Boxed::new(alloc, Term::Int(1))?);
+    }
+    Ok(sum)
+}
+
+#[test]
+fn a_variable_in_a_long_chain(rt: HostRuntime) -> Result<(), Fail> {
+    let alloc = rt.alloc();
+    for (of_x, want) in [(true, Want::Accepted), (false, Want::Unsafe(0))] {
+        let head = with_argument(alloc, "p", long_sum(alloc)?)?;
+        let rule = plain(alloc, 0, head, positive(alloc, "q", of_x)?)?;
+        let rules = Vec::from_array(alloc, [rule])?;
+        assert_eq!(rt; answer(alloc, rules.as_slice(), true)?, want);
+    }
+    Ok(())
+}
+
 /// `p(0).`
 fn first(alloc: Global) -> Result<Rule, AllocError> {
     let head = with_argument(alloc, "p", Term::Int(0))?;
