@@ -1,7 +1,8 @@
 -- The first limit, and where limits of formulas stand.
-use Rattle.std.proofs.Common.{◌≡◌, ◌≢◌, ℕ, ◌+◌, Bool, true, false, List, [], ◌∷◌, ◌++◌, refl, sym, ap, subst, ◌∙◌}
-use Rattle.std.specs.Prelude.{Option, None, Some, IfSome, Ok}
+use Rattle.std.proofs.Common.{◌≡◌, ◌≢◌, ℕ, ◌+◌, Bool, true, false, List, [], ◌∷◌, ◌++◌, refl, sym, ap, subst, ◌∙◌, append_assoc, arith}
+use Rattle.std.specs.Prelude.{Option, None, Some, IfSome, Ok, length, take}
 use Rattle.std.proofs.lemmas.List.{append-nil}
+use Rattle.std.proofs.Math.Seq.{take-append-add}
 use Rattle.grammar.specs.Fault.{IsText}
 use Rattle.ap_syntax.specs.declared.preferences.Formula.{Formula as FormulaTree}
 use Rattle.ap_syntax.specs.declared.programs.Statement.{Statement}
@@ -16,7 +17,7 @@ use Rattle.ap_lexemes.specs.Texts.{IsOutcome}
 use Rattle.limit_law.specs.Depths.{scan}
 use Rattle.limit_law.specs.Programs.{formulas_of}
 use Rattle.limit_law.specs.Stands.{Stands}
-use Rattle.limit_law.proofs.Quiet.{Quiet}
+use Rattle.limit_law.proofs.Quiet.{Quiet, silent_here}
 use Rattle.limit_law.proofs.Tells.{Tells, all_in_bounds}
 use Rattle.limit_law.proofs.Rules.{text_whole}
 
@@ -68,3 +69,62 @@ other_first xs fs p h = quiet_first no_levels 0 xs (p.quiet h)
 
 pub accepted : {whole of_type : Bool} {xs : List Lexeme} {end : ℕ} {is_cut : Bool} {ss : List Statement} → IsOutcome (Name.Text whole of_type) xs end is_cut (Ok (program ss)) → all_in_bounds (formulas_of ss) ≡ true
 accepted {xs = xs} {ss = ss} (IsOutcome.good d e c) = in_bounds xs (formulas_of ss) (text_tells d) e
+
+-- ---- the token at which the first limit stands
+
+pub record FirstAt (s : Levels) (i : ℕ) (xs : List Lexeme) (l : LimitAt) : Type 0 where
+  pub before : List Lexeme
+  pub here : Lexeme
+  pub behind : List Lexeme
+  pub are : xs ≡ before ++ (here ∷ behind)
+  pub number : l.index ≡ i + length before
+  pub stands : limit_at (scan s before) (role_of here.terminal) (next_role behind) ≡ Some l.which
+
+same_limit : (a b : LimitAt) → Some a ≡ Some b → a ≡ b
+same_limit a b e = cc
+
+first_here : (s : Levels) (i : ℕ) (x : Lexeme) (xs : List Lexeme) (which : Limit) (l : LimitAt) → limit_at s (role_of x.terminal) (next_role xs) ≡ Some which → record { which = which; index = i } ≡ l → FirstAt s i (x ∷ xs) l
+first_here s i x xs which l h e = record {
+  before = [];
+  here = x;
+  behind = xs;
+  are = refl;
+  number = let same : i ≡ l.index = ap (λ (m : LimitAt). m.index) e in omega (arith, same);
+  stands = h ∙ ap (λ (m : LimitAt). Some m.which) e;
+}
+
+first_later : (s : Levels) (i : ℕ) (x : Lexeme) (xs : List Lexeme) (l : LimitAt) → FirstAt (after s (role_of x.terminal)) (i + 1) xs l → FirstAt s i (x ∷ xs) l
+first_later s i x xs l h = record {
+  before = x ∷ h.before;
+  here = h.here;
+  behind = h.behind;
+  are = ap (λ ts. x ∷ ts) h.are;
+  number = omega (arith, h.number);
+  stands = h.stands;
+}
+
+first_either : (s : Levels) (i : ℕ) (x : Lexeme) (xs : List Lexeme) (l : LimitAt) (o : Option Limit) → limit_at s (role_of x.terminal) (next_role xs) ≡ o → (later : Option LimitAt) → (later ≡ Some l → FirstAt (after s (role_of x.terminal)) (i + 1) xs l) → limit_or o i later ≡ Some l → FirstAt s i (x ∷ xs) l
+first_either s i x xs l None h later f e = first_later s i x xs l (f e)
+first_either s i x xs l (Some which) h later f e = first_here s i x xs which l h (same_limit (record { which = which; index = i }) l e)
+
+pub first_at : (s : Levels) (i : ℕ) (xs : List Lexeme) (l : LimitAt) → limit_from s i xs ≡ Some l → FirstAt s i xs l
+first_at s i [] l e = cc
+first_at s i (x ∷ xs) l e = first_either s i x xs l (limit_at s (role_of x.terminal) (next_role xs)) refl (limit_from (after s (role_of x.terminal)) (i + 1) xs) (first_at (after s (role_of x.terminal)) (i + 1) xs l) e
+
+-- the tokens up to this one
+pub up_to : (before behind : List Lexeme) (here : Lexeme) (n : ℕ) → n ≡ length before → take (n + 1) (before ++ (here ∷ behind)) ≡ before ++ (here ∷ [])
+up_to before behind here n e = rw e (take-append-add before (here ∷ behind) 1)
+
+true_false : (b : Bool) → (b ≡ true → ⊥) → b ≡ false
+true_false true h = absurd (h refl)
+true_false false h = refl
+
+-- what stands behind that token is of no account
+pub deep_up_to : {whole of_type : Bool} (xs more : List Lexeme) (l : LimitAt) {ss : List Statement} → first_limit xs ≡ Some l → l.which ≡ Formula → IsText grammar (Name.Text whole of_type) (take (l.index + 1) xs ++ more) (program ss) → all_in_bounds (formulas_of ss) ≡ false
+deep_up_to {whole = whole} {of_type = of_type} xs more l {ss = ss} e f d = by_place (first_at no_levels 0 xs l e)
+  where
+    by_place : FirstAt no_levels 0 xs l → all_in_bounds (formulas_of ss) ≡ false
+    by_place p =
+        let tokens : take (l.index + 1) xs ++ more ≡ p.before ++ (p.here ∷ more) = ap (λ ts. take (l.index + 1) ts ++ more) p.are ∙ (ap (λ ts. ts ++ more) (up_to p.before p.behind p.here l.index (omega (arith, p.number))) ∙ append_assoc p.before (p.here ∷ []) more) in
+        let tells = text_tells (subst (λ ts. IsText grammar (Name.Text whole of_type) ts (program ss)) tokens d) in
+        true_false (all_in_bounds (formulas_of ss)) (λ h. silent_here no_levels p.before more p.here (tells.quiet h) (next_role p.behind) (p.stands ∙ ap (λ w. Some w) f))

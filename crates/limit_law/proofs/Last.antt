@@ -8,6 +8,7 @@ use Rattle.ap_lexemes.specs.declared.role.Role.TheVariants.{Name, Not, And, Or, 
 use Rattle.ap_lexemes.specs.Limits.{Levels, after, atom_limit, formula_limit, limit_at, next_role, role_of}
 use Rattle.limit_law.specs.Depths.{scan}
 use Rattle.limit_law.specs.Stands.{Stands}
+use Rattle.limit_law.specs.Inside.{StandsBefore}
 use Rattle.limit_law.proofs.Quiet.{scan_append}
 
 abbrev pub is_end : Role → Bool
@@ -49,12 +50,12 @@ limit_there s Comma next h n e = cc
 limit_there s Dot next h n e = cc
 limit_there s Other next h n e = cc
 
+limit_last : (s : Levels) (read rest : List Lexeme) (l : Last read) → next_role rest ≢ Open → formula_limit (scan s read).level (next_role rest) ≡ Some Formula → limit_at (scan s l.front) (role_of l.end.terminal) (next_role rest) ≡ Some Formula
+limit_last s read rest l n e = limit_there (scan s l.front) (role_of l.end.terminal) (next_role rest) l.ends n (subst (λ (t : Levels). formula_limit t.level (next_role rest) ≡ Some Formula) (ap (scan s) l.are ∙ scan_append s l.front (l.end ∷ [])) e)
+
 -- the limit stands where the tokens end
 pub stands_last : (s : Levels) (read rest : List Lexeme) → Last read → next_role rest ≢ Open → formula_limit (scan s read).level (next_role rest) ≡ Some Formula → Stands s read rest
-stands_last s read rest l n e = record {
-  before = l.front;
-  here = l.end;
-  behind = [];
-  are = l.are;
-  stands = limit_there (scan s l.front) (role_of l.end.terminal) (next_role rest) l.ends n (subst (λ (t : Levels). formula_limit t.level (next_role rest) ≡ Some Formula) (ap (scan s) l.are ∙ scan_append s l.front (l.end ∷ [])) e);
-}
+stands_last s read rest l n e = record { before = l.front; here = l.end; behind = []; are = l.are; stands = limit_last s read rest l n e }
+
+pub stands_before : (s : Levels) (read rest : List Lexeme) → Last read → next_role rest ≢ Open → formula_limit (scan s read).level (next_role rest) ≡ Some Formula → StandsBefore s (read ++ rest) rest
+stands_before s read rest l n e = record { before = l.front; here = l.end; are = ap (λ ts. ts ++ rest) l.are ∙ append_assoc l.front (l.end ∷ []) rest; stands = limit_last s read rest l n e }

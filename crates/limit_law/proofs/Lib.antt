@@ -12,3 +12,6 @@ pub mod Preferences
 pub mod Statements
 pub mod Rules
 pub mod FirstLimits
+pub mod Marked
+pub mod Places
+pub mod DeepEnds

@@ -1,5 +1,5 @@
 -- Preference statements.
-use Rattle.std.proofs.Common.{◌≡◌, ◌≢◌, ℕ, ◌<◌, ◌≤◌, true, false, List, [], ◌∷◌, ◌++◌, refl, sym, ap, subst, ◌∙◌, append_assoc, arith, Option, None, Some}
+use Rattle.std.proofs.Common.{◌≡◌, ℕ, ◌<◌, ◌≤◌, true, false, List, [], ◌∷◌, ◌++◌, refl, sym, ap, subst, ◌∙◌, append_assoc, arith, Option, None, Some}
 use Rattle.std.specs.Prelude.{◌&&◌, flat_map, nat_le}
 use Rattle.std.proofs.lemmas.List.{append-nil}
 use Rattle.std.proofs.lemmas.Grind.{flat_map-append}
@@ -16,7 +16,6 @@ use Rattle.ap_grammar.specs.Lexemes.{Lexeme}
 use Rattle.ap_grammar.specs.Values.{Value, as_element, as_given, as_ranked, as_target, collected, first_of, found}
 use Rattle.ap_grammar.specs.Values.Value.{token}
 use Rattle.ap_grammar.specs.Grammar.{Name, in_braces, made, many, or_nothing, rule_of}
-use Rattle.ap_lexemes.specs.declared.role.Role.{Role}
 use Rattle.ap_lexemes.specs.declared.role.Role.TheVariants as roles
 use Rattle.ap_lexemes.specs.Limits.{Levels, next_role, role_of}
 use Rattle.limit_law.specs.Depths.{depth, scan}
@@ -24,18 +23,12 @@ use Rattle.limit_law.specs.Programs.{element_formulas, given_formulas, ranked_fo
 use Rattle.limit_law.proofs.Limits.{limit_behind}
 use Rattle.limit_law.proofs.Last.{stands_last}
 use Rattle.limit_law.proofs.Scanning.{Kept, group, grouped_kept, kept_none, kept_then, kept_token}
-use Rattle.limit_law.proofs.Tells.{Formed, Goes, Tail, formed_then, kept_alone, kept_formed, may_follow, tail_formed, Whole, tail_none, tail_then, whole_dot}
+use Rattle.limit_law.proofs.Tells.{Formed, Goes, Tail, formed_then, kept_alone, kept_formed, no_and, no_open, tail_formed, Whole, tail_none, tail_then, whole_dot}
 use Rattle.limit_law.proofs.Scans.{DisjunctionDepth, ScansDomain, ScansElement, ScansFormula, ScansGiven, ScansKind, ScansName, ScansRanked, ScansStatement, ScansTarget}
 use Rattle.limit_law.proofs.Terms.{Has, form_kept, name_kept}
 use Rattle.limit_law.proofs.Formulas.{Behind, behind_is}
 
 -- ---- targets
-
-no_and : (r : Role) → may_follow r ≡ true → r ≢ roles.And
-no_and r h e = let no : may_follow roles.And ≡ true = subst (λ q. may_follow q ≡ true) e h in cc
-
-no_open : (r : Role) → may_follow r ≡ true → r ≢ roles.Open
-no_open r h e = let no : may_follow roles.Open ≡ true = subst (λ q. may_follow q ≡ true) e h in cc
 
 is_shallow : (k : ℕ) → (nat_le k 64 && true) ≡ true → k ≤ 64
 is_shallow k h = grind (arith, nat_tests)

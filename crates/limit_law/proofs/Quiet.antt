@@ -64,16 +64,9 @@ silent_or s next = λ e. cc
 
 -- ---- none stands there
 
-head_silent : (s : Levels) (x : Lexeme) (xs front more : List Lexeme) (y : Lexeme) → x ∷ xs ≡ front ++ (y ∷ more) → Quiet s (x ∷ xs) → Silent (scan s front) (role_of y.terminal)
-head_silent s x xs [] more y e q = let same : x ≡ y = cc in subst (λ z. Silent s (role_of z.terminal)) same q.0
-head_silent s x [] (z ∷ []) more y e q = cc
-head_silent s x [] (z ∷ w ∷ front) more y e q = cc
-head_silent s x (u ∷ xs) (z ∷ front) more y e q = let same : x ≡ z = cc in let rest : u ∷ xs ≡ front ++ (y ∷ more) = cc in subst (λ z. Silent (scan (after s (role_of z.terminal)) front) (role_of y.terminal)) same (head_silent (after s (role_of x.terminal)) u xs front more y rest q.1)
-
-nothing_here : (front more : List Lexeme) (y : Lexeme) → [] ≡ front ++ (y ∷ more) → ⊥
-nothing_here [] more y e = cc
-nothing_here (z ∷ front) more y e = cc
+pub silent_here : (s : Levels) (front more : List Lexeme) (y : Lexeme) → Quiet s (front ++ (y ∷ more)) → Silent (scan s front) (role_of y.terminal)
+silent_here s [] more y q = q.0
+silent_here s (x ∷ front) more y q = silent_here (after s (role_of x.terminal)) front more y q.1
 
 pub none_stands : (s : Levels) (read rest : List Lexeme) → Quiet s read → Stands s read rest → ⊥
-none_stands s [] rest q h = nothing_here h.before h.behind h.here h.are
-none_stands s (x ∷ xs) rest q h = head_silent s x xs h.before h.behind h.here h.are q (next_role (h.behind ++ rest)) h.stands
+none_stands s read rest q h = silent_here s h.before h.behind h.here (subst (Quiet s) h.are q) (next_role (h.behind ++ rest)) h.stands

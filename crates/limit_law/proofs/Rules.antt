@@ -14,6 +14,7 @@ use Rattle.ap_lexemes.specs.Limits.{Levels, conjunction_depth}
 use Rattle.limit_law.specs.Depths.{capped, depth, scan}
 use Rattle.limit_law.specs.Programs.{formulas_of}
 use Rattle.limit_law.specs.Stands.{IsConjunction, IsFormula}
+use Rattle.limit_law.proofs.Last.{Last}
 use Rattle.limit_law.proofs.Tells.{Whole}
 use Rattle.limit_law.proofs.Scans.{Scans}
 use Rattle.limit_law.proofs.Terms.{Has, arguments_scans, atom_scans, form_kept, kind_scans, name_scans, primary_scans, product_scans, sum_scans, term_scans, unary_scans}
@@ -83,6 +84,12 @@ conjunction_behind {s = s} {read = front} {rest = rest} {f = f} i = by_reading (
   where
     by_reading : Has (Call Name.Conjunction) (front ++ rest) rest (formula i.first f ∷ []) → conjunction_depth (scan s front).level ≡ capped (depth f)
     by_reading (Reads.call p) = subst (λ ts. conjunction_depth (scan s ts).level ≡ capped (depth f)) (sym (append_cancel_right front p.read rest p.tokens)) (subst (λ g. conjunction_depth (scan s p.read).level ≡ capped (depth g)) (same_tree i.first p.first f p.tree p.is) (conjunction_is s i.conjunction i.negated i.member p))
+
+pub conjunction_last : {s : Levels} {read rest : List Lexeme} {f : FormulaTree} → IsConjunction s read rest f → Last read
+conjunction_last {s = s} {read = front} {rest = rest} {f = f} i = by_reading (read_by rule_scans i.derives)
+  where
+    by_reading : Has (Call Name.Conjunction) (front ++ rest) rest (formula i.first f ∷ []) → Last front
+    by_reading (Reads.call p) = subst Last (sym (append_cancel_right front p.read rest p.tokens)) p.last
 
 -- a text, with its formulas
 pub text_whole : {whole of_type : Bool} {xs ys : List Lexeme} {ss : List Statement} → Derives grammar (Call (Name.Text whole of_type)) xs ys (program ss ∷ []) → Whole xs ys (formulas_of ss)

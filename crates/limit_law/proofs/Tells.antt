@@ -1,5 +1,5 @@
 -- Tokens that come to formulas: a limit stands among them exactly if one of the formulas is too deep.
-use Rattle.std.proofs.Common.{◌≡◌, ℕ, ◌≤◌, Bool, true, false, List, [], ◌∷◌, ◌++◌, refl, sym, ap, subst, ◌∙◌, append_assoc, arith}
+use Rattle.std.proofs.Common.{◌≡◌, ◌≢◌, ℕ, ◌≤◌, Bool, true, false, List, [], ◌∷◌, ◌++◌, refl, sym, ap, subst, ◌∙◌, append_assoc, arith}
 use Rattle.std.specs.Prelude.{◌&&◌, Some}
 use Rattle.std.specs.List.{list_all}
 use Rattle.std.proofs.lemmas.Bool.{and_parts}
@@ -66,6 +66,12 @@ may_follow And = false
 may_follow Open = false
 may_follow r = true
 
+pub no_and : (r : Role) → may_follow r ≡ true → r ≢ And
+no_and r h e = let no : may_follow And ≡ true = subst (λ q. may_follow q ≡ true) e h in cc
+
+pub no_open : (r : Role) → may_follow r ≡ true → r ≢ Open
+no_open r h e = let no : may_follow Open ≡ true = subst (λ q. may_follow q ≡ true) e h in cc
+
 pub record Goes (s : Levels) (read ys : List Lexeme) (fs : List Formula) : Type 0 where
   pub outer : (scan s read).outer ≡ s.outer
   pub tells : may_follow (next_role ys) ≡ true → Tells s read ys fs
@@ -107,7 +113,7 @@ tail_then {zs = zs} a b = record {
 pub tail_none : (xs : List Lexeme) → Tail xs xs []
 tail_none xs = record { read = []; tokens = refl; follows = λ h. h; goes = λ s. record { outer = refl; tells = λ h. tells_nothing s [] xs tt } }
 
-fresh_ended : (c : ℕ) → IsFresh (ended c)
+pub fresh_ended : (c : ℕ) → IsFresh (ended c)
 fresh_ended c = record { disjunction = refl; conjunction = refl; negated = refl; member = refl }
 
 pub fresh_nowhere : IsFresh no_levels.level

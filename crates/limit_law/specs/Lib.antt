@@ -1,3 +1,4 @@
 pub mod Depths
 pub mod Stands
 pub mod Programs
+pub mod Inside

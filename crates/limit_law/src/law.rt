@@ -1,5 +1,5 @@
 // The laws.
-ghost use Rattle.std.specs.Prelude.{◌≡◌, ◌≢◌, ◌<◌, ◌≤◌, Bool, IfSome, List, None, Ok, Some, [], false, true, ℕ};
+ghost use Rattle.std.specs.Prelude.{◌≡◌, ◌≢◌, ◌<◌, ◌≤◌, Bool, IfSome, List, None, Ok, Some, [], false, length, take, true, ℕ, ◌+◌, ◌++◌, ◌∷◌};
 ghost use Rattle.std.specs.List.{list_all};
 ghost use Rattle.grammar.specs.Fault.{IsText};
 ghost use Rattle.ap_grammar.specs.Grammar.{Name, grammar};
@@ -8,11 +8,13 @@ ghost use Rattle.ap_grammar.specs.Values.Value.{program};
 ghost use Rattle.ap_lexemes.specs.Limits.{Levels, depth_of, first_limit, formula_limit, next_role, no_levels};
 ghost use Rattle.ap_lexemes.specs.Texts.{IsOutcome};
 ghost use Rattle.ap_lexemes.specs.declared.limit.Limit.TheVariants as limits;
+ghost use Rattle.ap_lexemes.specs.declared.limit.LimitAt.{LimitAt};
 ghost use Rattle.ap_lexemes.specs.declared.role.Role.{Role};
 ghost use Rattle.ap_lexemes.specs.declared.role.Role.TheVariants as roles;
 ghost use Rattle.ap_syntax.specs.declared.preferences.Formula.{Formula};
 ghost use Rattle.ap_syntax.specs.declared.programs.Statement.{Statement};
 ghost use Rattle.limit_law.specs.Depths.{capped, depth, scan};
+ghost use Rattle.limit_law.specs.Inside.{DeepBefore, IsUpTo, StandsBefore};
 ghost use Rattle.limit_law.specs.Programs.{formulas_of, is_in_bounds};
 ghost use Rattle.limit_law.specs.Stands.{IsConjunction, IsFormula, Stands};
 
@@ -52,4 +54,12 @@ pub fn limit_of_a_text()
     ensures within { (whole of_type : Bool) (xs : List Lexeme) (statements : List Statement) → IsText grammar (Name.Text whole of_type) xs (program statements) → list_all is_in_bounds (formulas_of statements) ≡ true → IfSome (first_limit xs) (λ l. l.which ≢ limits.Formula) }
     // So no formula of a program that a text comes to is deeper.
     ensures accepted { (whole of_type : Bool) (xs : List Lexeme) (end : ℕ) (is_cut : Bool) (statements : List Statement) → IsOutcome (Name.Text whole of_type) xs end is_cut (Ok (program statements)) → list_all is_in_bounds (formulas_of statements) ≡ true }
+    // Where the first limit is one of formulas, each text that begins with the tokens up to it has such a formula, also where these tokens go on otherwise here.
+    ensures beginning { (whole of_type : Bool) (xs more : List Lexeme) (l : LimitAt) (statements : List Statement) → first_limit xs ≡ Some l → l.which ≡ limits.Formula → IsText grammar (Name.Text whole of_type) (take (l.index + 1) xs ++ more) (program statements) → list_all is_in_bounds (formulas_of statements) ≡ false }
+{}
+
+/// In a text of the grammar a limit of formulas stands at the last token of each formula that is deeper than 64, and the first limit stands no later.
+pub fn place_of_a_limit()
+    ensures stands { (whole of_type : Bool) (xs ending : List Lexeme) → DeepBefore (Name.Text whole of_type) xs ending → StandsBefore no_levels xs ending }
+    ensures first { (whole of_type : Bool) (before : List Lexeme) (here : Lexeme) (ending : List Lexeme) → DeepBefore (Name.Text whole of_type) (before ++ (here ∷ ending)) ending → IsUpTo (first_limit (before ++ (here ∷ ending))) (length before) }
 {}
