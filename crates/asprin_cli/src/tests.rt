@@ -331,17 +331,16 @@ fn words_files_and_faults(rt: HostRuntime) -> Result<(), Fail> {
     Ok(())
 }
 
-/// Whether a run over so many spaces answers this status and writes these lines, where these calls of the source fail.
-fn passes_blanks(
+/// Whether a run over this text answers this status and writes these lines, where these calls of the source fail.
+fn passes_text(
     alloc: Global,
-    count: usize,
+    text: &[u8],
     fails: &[u64],
     status: Status,
     lines: &str,
 ) -> Result<bool, AllocError> {
-    let text = vec![in alloc; b' '; count]?;
     let words = words_of(alloc, &ONE_FILE)?;
-    let mut src = source_of(alloc, &text, &[], fails)?;
+    let mut src = source_of(alloc, text, &[], fails)?;
     let mut out = MemSink::new(alloc, 100, Vec::new(alloc))?;
     let mut cert = MemSink::new(alloc, 0, Vec::new(alloc))?;
     let found = solve_run(alloc, &words, &mut src, &mut out, &mut cert);
@@ -351,7 +350,8 @@ fn passes_blanks(
 #[test]
 fn largest_text(rt: HostRuntime) -> Result<(), Fail> {
     let lines = "OPTIMUM 1:\nDONE 1\n";
-    assert!(rt; passes_blanks(rt.alloc(), 16_777_216, &[], Status::Done, lines)?);
+    let text = vec![in rt.alloc(); b' '; 16_777_216]?;
+    assert!(rt; passes_text(rt.alloc(), &text, &[], Status::Done, lines)?);
     Ok(())
 }
 
@@ -359,6 +359,20 @@ fn largest_text(rt: HostRuntime) -> Result<(), Fail> {
 #[test]
 fn too_large_a_text(rt: HostRuntime) -> Result<(), Fail> {
     let lines = "LIMIT bytes 16777216\n";
-    assert!(rt; passes_blanks(rt.alloc(), 16_777_217, &[4098], Status::Limit, lines)?);
+    let text = vec![in rt.alloc(); b' '; 16_777_217]?;
+    assert!(rt; passes_text(rt.alloc(), &text, &[4098], Status::Limit, lines)?);
+    Ok(())
+}
+
+/// `a :- 1+1+..+1 = 1.`, with more operators than calls fit on the stack.
+#[test]
+fn a_long_chain_of_operators(rt: HostRuntime) -> Result<(), Fail> {
+    let mut text = Vec::from_slice(rt.alloc(), b"a :- 1")?;
+    for _ in 0..200_000 {
+        text.extend_from_slice(b"+1")?;
+    }
+    text.extend_from_slice(b" = 1.")?;
+    let lines = "UNSUPPORTED 1:0 later\n";
+    assert!(rt; passes_text(rt.alloc(), &text, &[], Status::Unsupported, lines)?);
     Ok(())
 }
