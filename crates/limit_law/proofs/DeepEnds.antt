@@ -1,5 +1,5 @@
 -- Where a formula that is too deep ends inside a text a limit stands.
-use Rattle.std.proofs.Common.{◌≡◌, ◌≢◌, ℕ, ◌+◌, ◌<◌, ◌≤◌, Bool, true, false, List, [], ◌∷◌, ◌++◌, refl, sym, ap, subst, ◌∙◌, append_assoc, arith, length-append}
+use Rattle.std.proofs.Common.{◌≡◌, ℕ, ◌+◌, ◌<◌, Bool, List, [], ◌∷◌, ◌++◌, sym, ap, subst, ◌∙◌, append_assoc, arith, length-append}
 use Rattle.std.specs.Prelude.{Option, None, Some, length}
 use Rattle.std.proofs.lemmas.List.{append_cancel_right}
 use Rattle.ap_syntax.specs.declared.preferences.Formula.{Formula as FormulaTree}
@@ -12,14 +12,12 @@ use Rattle.ap_grammar.specs.Values.Value.{formula}
 use Rattle.ap_lexemes.specs.declared.limit.Limit.{Limit}
 use Rattle.ap_lexemes.specs.declared.limit.Limit.TheVariants.{Formula}
 use Rattle.ap_lexemes.specs.declared.limit.LimitAt.{LimitAt}
-use Rattle.ap_lexemes.specs.declared.role.Role.TheVariants.{Open}
-use Rattle.ap_lexemes.specs.Limits.{Levels, after, first_limit, formula_limit, limit_at, limit_from, limit_or, next_role, no_levels, role_of}
+use Rattle.ap_lexemes.specs.Limits.{Levels, after, first_limit, limit_at, limit_from, limit_or, next_role, no_levels, role_of}
 use Rattle.limit_law.specs.Depths.{depth, scan}
-use Rattle.limit_law.specs.Stands.{IsConjunction, IsFormula, Stands}
+use Rattle.limit_law.specs.Stands.{IsConjunction, IsFormula}
 use Rattle.limit_law.specs.Inside.{DeepBefore, EndsBefore, IsNode, IsUpTo, StandsBefore}
 use Rattle.limit_law.proofs.Quiet.{scan_append}
-use Rattle.limit_law.proofs.Tells.{fresh_nowhere}
-use Rattle.limit_law.proofs.Last.{Last, stands_before}
+use Rattle.limit_law.proofs.Last.{stands_before}
 use Rattle.limit_law.proofs.Limits.{limit_behind, limit_of_part}
 use Rattle.limit_law.proofs.Marked.{Front, tokens_of}
 use Rattle.limit_law.proofs.Places.{Place, conjunction_placed, formula_placed, further_no_and, further_no_open, members_no_open}

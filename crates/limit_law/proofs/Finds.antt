@@ -1,9 +1,9 @@
 -- Where a limit of formulas stands inside a text a formula that is too deep ends.
-use Rattle.std.proofs.Common.{◌≡◌, ◌≢◌, ℕ, ◌+◌, ◌<◌, ◌≤◌, Bool, true, false, List, [], ◌∷◌, ◌++◌, refl, sym, ap, subst, ◌∙◌, arith, ◌⊎◌, inl, inr, ⊎_elim}
-use Rattle.std.specs.Prelude.{None, Some}
+use Rattle.std.proofs.Common.{◌≡◌, ℕ, ◌<◌, Bool, true, false, List, [], ◌∷◌, ◌++◌, refl, sym, ap, subst, ◌∙◌, arith, ◌⊎◌, inl, inr, ⊎_elim}
+use Rattle.std.specs.Prelude.{Some}
 use Rattle.std.proofs.lemmas.List.{append-nil}
 use Rattle.grammar.specs.Form.{Derives, ◌⨾◌, ◌∣◌, opt}
-use Rattle.grammar.specs.Form.Form.{Tok, Call, Empty, Seq, Alt, Star, Then}
+use Rattle.grammar.specs.Form.Form.{Tok, Call, Seq, Alt, Star}
 use Rattle.grammar.proofs.Interpret.{Reads, read as read_by, weaker}
 use Rattle.ap_syntax.specs.declared.preferences.Formula.{Formula as FormulaTree}
 use Rattle.ap_grammar.specs.declared.terminals.Terminal.{Terminal}
@@ -12,26 +12,25 @@ use Rattle.ap_grammar.specs.Grammar.{Name, Rhs, grammar, in_braces, made, many, 
 use Rattle.ap_grammar.specs.Lexemes.{Lexeme}
 use Rattle.ap_grammar.specs.Values.{Value}
 use Rattle.ap_grammar.specs.Values.Value.{formula}
-use Rattle.ap_lexemes.specs.declared.levels.Level.{Level}
 use Rattle.ap_lexemes.specs.declared.limit.Limit.TheVariants.{Formula}
 use Rattle.ap_lexemes.specs.declared.role.Role.{Role}
 use Rattle.ap_lexemes.specs.declared.role.Role.TheVariants as roles
-use Rattle.ap_lexemes.specs.Limits.{Levels, after, atom_limit, conjunction_depth, depth_of, formula_limit, limit_at, next_role, no_levels, role_of}
+use Rattle.ap_lexemes.specs.Limits.{Levels, after, limit_at, next_role, no_levels, role_of}
 use Rattle.limit_law.specs.Depths.{IsFresh, capped, depth, scan}
-use Rattle.limit_law.specs.Inside.{DeepBefore, EndsBefore, Inside, IsNode, StandsBefore}
+use Rattle.limit_law.specs.Inside.{DeepBefore, EndsBefore, Inside, StandsBefore}
 use Rattle.limit_law.proofs.Limits.{deep_part_of, deep_whole_of}
 use Rattle.limit_law.proofs.Quiet.{Quiet}
-use Rattle.limit_law.proofs.Scanning.{Kept, bare_ended, inside}
+use Rattle.limit_law.proofs.Scanning.{Kept}
 use Rattle.limit_law.proofs.Tells.{Whole, all_in_bounds, bare_fresh, fresh_ended, fresh_nowhere}
-use Rattle.limit_law.proofs.Scans.{ConjunctionDepth, DisjunctionDepth, Scans, ScansFormula, ScansName, ScansStatement, formulas_in}
+use Rattle.limit_law.proofs.Scans.{Scans, ScansName, ScansStatement}
 use Rattle.limit_law.proofs.Terms.{Has, form_kept, name_kept}
 use Rattle.limit_law.proofs.Formulas.{behind_is, conjunction_is}
 use Rattle.limit_law.proofs.Preferences.{opening_kept}
 use Rattle.limit_law.proofs.Statements.{Plain, base_plain, const_plain, defined_plain, optimize_plain, rule_plain, show_plain, statements_scan, type_plain}
 use Rattle.limit_law.proofs.Rules.{rule_scans}
-use Rattle.limit_law.proofs.Marked.{Front, tokens_of}
+use Rattle.limit_law.proofs.Marked.{tokens_of}
 use Rattle.limit_law.proofs.Places.{BeginsPart, fresh_begins, or_begins, other_fresh}
-use Rattle.limit_law.proofs.Spots.{Spot, alone_spot, empty_spot, one_spot, quiet_spot, spot_behind, spot_in, spot_left, spot_limit, spot_token}
+use Rattle.limit_law.proofs.Spots.{Spot, alone_spot, empty_spot, one_spot, quiet_spot, spot_behind, spot_in, spot_limit, spot_token}
 
 -- ---- what is found
 

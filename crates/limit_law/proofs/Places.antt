@@ -2,7 +2,7 @@
 use Rattle.std.proofs.Common.{◌≡◌, ◌≢◌, Bool, true, false, List, [], ◌∷◌, ◌++◌, refl, ap, sym, subst, ◌∙◌, append_assoc}
 use Rattle.std.specs.Prelude.{◌&&◌, ◌||◌, not}
 use Rattle.std.proofs.lemmas.Bool.{and_parts}
-use Rattle.grammar.specs.Form.{Derives, ◌⨾◌, ◌∣◌, opt}
+use Rattle.grammar.specs.Form.{Derives, ◌⨾◌, ◌∣◌}
 use Rattle.grammar.specs.Form.Form.{Tok, Call, Empty, Seq, Alt, Star, Then}
 use Rattle.ap_grammar.specs.declared.terminals.Terminal.{Terminal}
 use Rattle.ap_grammar.specs.declared.terminals.Terminal.TheVariants as t

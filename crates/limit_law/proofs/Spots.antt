@@ -1,5 +1,5 @@
 -- A limit of formulas that stands at one of some tokens.
-use Rattle.std.proofs.Common.{◌≡◌, ◌≢◌, ℕ, ◌+◌, Bool, true, false, List, [], ◌∷◌, ◌++◌, refl, sym, ap, subst, ◌∙◌, append_assoc, arith, length-append, ◌⊎◌, inl, inr}
+use Rattle.std.proofs.Common.{◌≡◌, ◌+◌, Bool, true, false, List, [], ◌∷◌, ◌++◌, refl, sym, ap, subst, ◌∙◌, append_assoc, arith, length-append, ◌⊎◌, inl, inr}
 use Rattle.std.specs.Prelude.{Some, length, nat_le}
 use Rattle.std.proofs.lemmas.List.{append_cancel_right}
 use Rattle.ap_grammar.specs.Lexemes.{Lexeme}
@@ -9,7 +9,6 @@ use Rattle.ap_lexemes.specs.declared.role.Role.TheVariants.{Name, Not, And, Or, 
 use Rattle.ap_lexemes.specs.declared.levels.Level.{Level}
 use Rattle.ap_lexemes.specs.Limits.{Levels, after, atom_limit, formula_limit, is_full, limit_at, next_role, role_of}
 use Rattle.limit_law.specs.Depths.{scan}
-use Rattle.limit_law.specs.Inside.{StandsBefore}
 use Rattle.limit_law.proofs.Quiet.{Quiet, Silent, a_nesting, an_arity, scan_append, silent_here}
 
 -- one stands at a token of `xs` before `ys`, and before `ending`
@@ -22,9 +21,6 @@ pub record Spot (s : Levels) (xs ys ending : List Lexeme) : Type 0 where
   pub stands : limit_at (scan s before) (role_of here.terminal) (next_role ending) ≡ Some Formula
 
 -- ---- none
-
-no_limit_at : (s : Levels) (r next : Role) → Silent s r → limit_at s r next ≡ Some Formula → ⊥
-no_limit_at s r next q e = q next e
 
 pub quiet_spot : (s : Levels) (read : List Lexeme) {xs ys ending : List Lexeme} → xs ≡ read ++ ys → Quiet s read → Spot s xs ys ending → ⊥
 quiet_spot s read {ys = ys} {ending = ending} e q h = silent_here s h.before h.behind h.here (subst (Quiet s) tokens q) (next_role ending) h.stands
@@ -84,10 +80,6 @@ right_spot f (inr b) = b
 -- behind tokens at which none stands
 pub spot_behind : (s : Levels) (read : List Lexeme) {xs ys zs ending : List Lexeme} → xs ≡ read ++ ys → Quiet s read → Spot s xs zs ending → Spot (scan s read) ys zs ending
 spot_behind s read e q h = right_spot (quiet_spot s read e q) (spot_in s read e h)
-
-pub spot_left : {A B : Type 0} → (B → ⊥) → A ⊎ B → A
-spot_left f (inl a) = a
-spot_left f (inr b) = absurd (f b)
 
 token_quiet : (s : Levels) (x : Lexeme) (r : Role) → role_of x.terminal ≡ r → is_no_end r ≡ true → Quiet s (x ∷ [])
 token_quiet s x r e h = (no_end_silent s (role_of x.terminal) (subst (λ q. is_no_end q ≡ true) (sym e) h), tt)
