@@ -1,6 +1,7 @@
 -- Where a formula that is too deep ends inside a text a limit stands.
-use Rattle.std.proofs.Common.{◌≡◌, ◌≢◌, ℕ, ◌+◌, ◌<◌, ◌≤◌, Bool, true, false, List, [], ◌∷◌, ◌++◌, refl, sym, ap, subst, ◌∙◌, append_assoc, arith, length-append}
+use Rattle.std.proofs.Common.{◌≡◌, ℕ, ◌+◌, ◌<◌, Bool, List, [], ◌∷◌, ◌++◌, sym, ap, subst, ◌∙◌, append_assoc, arith, length-append}
 use Rattle.std.specs.Prelude.{Option, None, Some, length}
+use Rattle.std.proofs.lemmas.List.{append_cancel_right}
 use Rattle.ap_syntax.specs.declared.preferences.Formula.{Formula as FormulaTree}
 use Rattle.grammar.specs.Form.{Derives}
 use Rattle.grammar.specs.Form.Form.{Call}
@@ -11,14 +12,12 @@ use Rattle.ap_grammar.specs.Values.Value.{formula}
 use Rattle.ap_lexemes.specs.declared.limit.Limit.{Limit}
 use Rattle.ap_lexemes.specs.declared.limit.Limit.TheVariants.{Formula}
 use Rattle.ap_lexemes.specs.declared.limit.LimitAt.{LimitAt}
-use Rattle.ap_lexemes.specs.declared.role.Role.TheVariants.{Open}
-use Rattle.ap_lexemes.specs.Limits.{Levels, after, first_limit, formula_limit, limit_at, limit_from, limit_or, next_role, no_levels, role_of}
+use Rattle.ap_lexemes.specs.Limits.{Levels, after, first_limit, limit_at, limit_from, limit_or, next_role, no_levels, role_of}
 use Rattle.limit_law.specs.Depths.{depth, scan}
-use Rattle.limit_law.specs.Stands.{IsConjunction, IsFormula, Stands}
+use Rattle.limit_law.specs.Stands.{IsConjunction, IsFormula}
 use Rattle.limit_law.specs.Inside.{DeepBefore, EndsBefore, IsNode, IsUpTo, StandsBefore}
 use Rattle.limit_law.proofs.Quiet.{scan_append}
-use Rattle.limit_law.proofs.Tells.{fresh_nowhere}
-use Rattle.limit_law.proofs.Last.{Last, stands_before}
+use Rattle.limit_law.proofs.Last.{stands_before}
 use Rattle.limit_law.proofs.Limits.{limit_behind, limit_of_part}
 use Rattle.limit_law.proofs.Marked.{Front, tokens_of}
 use Rattle.limit_law.proofs.Places.{Place, conjunction_placed, formula_placed, further_no_and, further_no_open, members_no_open}
@@ -81,8 +80,17 @@ limit_up_to s i (x ∷ before) ending here e = up_to_later (limit_from s i (x �
 same_length : (before other ending : List Lexeme) (here there : Lexeme) → before ++ (here ∷ ending) ≡ other ++ (there ∷ ending) → length other ≡ length before
 same_length before other ending here there e = let l : length (before ++ (here ∷ ending)) ≡ length (other ++ (there ∷ ending)) = ap length e in grind (arith, length-append)
 
-stands_up_to : (before ending : List Lexeme) (here : Lexeme) → StandsBefore no_levels (before ++ (here ∷ ending)) ending → IsUpTo (first_limit (before ++ (here ∷ ending))) (length before)
-stands_up_to before ending here h = subst (IsUpTo (first_limit (before ++ (here ∷ ending)))) (omega (arith, same_length before h.before ending here h.here h.are)) (subst (λ ts. IsUpTo (first_limit ts) (0 + length h.before)) (sym h.are) (limit_up_to no_levels 0 h.before ending h.here h.stands))
+same_front : (before other ending behind : List Lexeme) (here there : Lexeme) → before ++ (here ∷ ending) ≡ other ++ (there ∷ ending) → other ++ (there ∷ behind) ≡ before ++ (here ∷ behind)
+same_front before other ending behind here there e =
+    let same : before ++ (here ∷ []) ≡ other ++ (there ∷ []) = append_cancel_right (before ++ (here ∷ [])) (other ++ (there ∷ [])) ending (append_assoc before (here ∷ []) ending ∙ (e ∙ sym (append_assoc other (there ∷ []) ending))) in
+    sym (append_assoc other (there ∷ []) behind) ∙ (ap (λ ts. ts ++ behind) (sym same) ∙ append_assoc before (here ∷ []) behind)
 
-pub deep_first : {whole of_type : Bool} (before ending : List Lexeme) (here : Lexeme) → DeepBefore (Name.Text whole of_type) (before ++ (here ∷ ending)) ending → IsUpTo (first_limit (before ++ (here ∷ ending))) (length before)
-deep_first before ending here d = stands_up_to before ending here (deep_stands d)
+-- also where the tokens go on otherwise behind the next one
+pub stands_up_to : (before ending behind : List Lexeme) (here : Lexeme) → next_role ending ≡ next_role behind → StandsBefore no_levels (before ++ (here ∷ ending)) ending → IsUpTo (first_limit (before ++ (here ∷ behind))) (length before)
+stands_up_to before ending behind here n h =
+    subst (IsUpTo (first_limit (before ++ (here ∷ behind)))) (omega (arith, same_length before h.before ending here h.here h.are))
+    (subst (λ ts. IsUpTo (first_limit ts) (0 + length h.before)) (same_front before h.before ending behind here h.here h.are)
+    (limit_up_to no_levels 0 h.before behind h.here (ap (limit_at (scan no_levels h.before) (role_of h.here.terminal)) (sym n) ∙ h.stands)))
+
+pub deep_first : {whole of_type : Bool} (before ending behind : List Lexeme) (here : Lexeme) → next_role ending ≡ next_role behind → DeepBefore (Name.Text whole of_type) (before ++ (here ∷ ending)) ending → IsUpTo (first_limit (before ++ (here ∷ behind))) (length before)
+deep_first before ending behind here n d = stands_up_to before ending behind here n (deep_stands d)

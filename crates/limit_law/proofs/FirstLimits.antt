@@ -1,8 +1,8 @@
 -- The first limit, and where limits of formulas stand.
 use Rattle.std.proofs.Common.{◌≡◌, ◌≢◌, ℕ, ◌+◌, Bool, true, false, List, [], ◌∷◌, ◌++◌, refl, sym, ap, subst, ◌∙◌, append_assoc, arith}
-use Rattle.std.specs.Prelude.{Option, None, Some, IfSome, Ok, length, take}
+use Rattle.std.specs.Prelude.{Option, None, Some, IfSome, Ok, drop, length, take}
 use Rattle.std.proofs.lemmas.List.{append-nil}
-use Rattle.std.proofs.Math.Seq.{take-append-add}
+use Rattle.std.proofs.Math.Seq.{drop-append-add, take-append-add}
 use Rattle.grammar.specs.Fault.{IsText}
 use Rattle.ap_syntax.specs.declared.preferences.Formula.{Formula as FormulaTree}
 use Rattle.ap_syntax.specs.declared.programs.Statement.{Statement}
@@ -80,7 +80,7 @@ pub record FirstAt (s : Levels) (i : ℕ) (xs : List Lexeme) (l : LimitAt) : Typ
   pub number : l.index ≡ i + length before
   pub stands : limit_at (scan s before) (role_of here.terminal) (next_role behind) ≡ Some l.which
 
-same_limit : (a b : LimitAt) → Some a ≡ Some b → a ≡ b
+pub same_limit : (a b : LimitAt) → Some a ≡ Some b → a ≡ b
 same_limit a b e = cc
 
 first_here : (s : Levels) (i : ℕ) (x : Lexeme) (xs : List Lexeme) (which : Limit) (l : LimitAt) → limit_at s (role_of x.terminal) (next_role xs) ≡ Some which → record { which = which; index = i } ≡ l → FirstAt s i (x ∷ xs) l
@@ -115,6 +115,13 @@ first_at s i (x ∷ xs) l e = first_either s i x xs l (limit_at s (role_of x.ter
 pub up_to : (before behind : List Lexeme) (here : Lexeme) (n : ℕ) → n ≡ length before → take (n + 1) (before ++ (here ∷ behind)) ≡ before ++ (here ∷ [])
 up_to before behind here n e = rw e (take-append-add before (here ∷ behind) 1)
 
+pub left_behind : (before behind : List Lexeme) (here : Lexeme) (n : ℕ) → n ≡ length before → drop (n + 1) (before ++ (here ∷ behind)) ≡ behind
+left_behind before behind here n e = rw e (drop-append-add before (here ∷ behind) 1)
+
+-- and others behind them
+pub others_behind : (xs more : List Lexeme) (l : LimitAt) (p : FirstAt no_levels 0 xs l) → take (l.index + 1) xs ++ more ≡ p.before ++ (p.here ∷ more)
+others_behind xs more l p = ap (λ ts. take (l.index + 1) ts ++ more) p.are ∙ (ap (λ ts. ts ++ more) (up_to p.before p.behind p.here l.index (omega (arith, p.number))) ∙ append_assoc p.before (p.here ∷ []) more)
+
 true_false : (b : Bool) → (b ≡ true → ⊥) → b ≡ false
 true_false true h = absurd (h refl)
 true_false false h = refl
@@ -125,6 +132,5 @@ deep_up_to {whole = whole} {of_type = of_type} xs more l {ss = ss} e f d = by_pl
   where
     by_place : FirstAt no_levels 0 xs l → all_in_bounds (formulas_of ss) ≡ false
     by_place p =
-        let tokens : take (l.index + 1) xs ++ more ≡ p.before ++ (p.here ∷ more) = ap (λ ts. take (l.index + 1) ts ++ more) p.are ∙ (ap (λ ts. ts ++ more) (up_to p.before p.behind p.here l.index (omega (arith, p.number))) ∙ append_assoc p.before (p.here ∷ []) more) in
-        let tells = text_tells (subst (λ ts. IsText grammar (Name.Text whole of_type) ts (program ss)) tokens d) in
+        let tells = text_tells (subst (λ ts. IsText grammar (Name.Text whole of_type) ts (program ss)) (others_behind xs more l p) d) in
         true_false (all_in_bounds (formulas_of ss)) (λ h. silent_here no_levels p.before more p.here (tells.quiet h) (next_role p.behind) (p.stands ∙ ap (λ w. Some w) f))

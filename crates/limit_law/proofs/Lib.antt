@@ -15,3 +15,6 @@ pub mod FirstLimits
 pub mod Marked
 pub mod Places
 pub mod DeepEnds
+pub mod Spots
+pub mod Finds
+pub mod FirstPlaces

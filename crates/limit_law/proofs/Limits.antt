@@ -68,3 +68,22 @@ no_atom_at l Close h = no_formula_at l Close h
 no_atom_at l Comma h = no_formula_at l Comma h
 no_atom_at l Dot h = no_formula_at l Dot h
 no_atom_at l Other h = no_formula_at l Other h
+
+-- ---- what a limit says of the depths
+
+part_in_bounds_alone : (part whole next : Bool) → part ≡ false → next ≡ true → limit_by part next whole ≡ None
+part_in_bounds_alone true whole next e f = cc
+part_in_bounds_alone false whole true e f = refl
+part_in_bounds_alone false whole false e f = cc
+
+not_at_most : (d : ℕ) → (d ≤ 64 → ⊥) → 64 < d
+not_at_most d h = grind arith
+
+and_is : (r : Role) → r ≡ And → is_and r ≡ true
+and_is r e = rw e refl
+
+pub deep_part_of : (l : Level) (next : Role) → next ≡ And → formula_limit l next ≡ Some Formula → 64 < conjunction_depth l
+deep_part_of l next n e = not_at_most (conjunction_depth l) (λ h. not_formula (formula_limit l next) (part_in_bounds_alone (is_too_deep (conjunction_depth l)) (is_too_deep (depth_of l)) (is_and next) (in_bounds (conjunction_depth l) h) (and_is next n)) e)
+
+pub deep_whole_of : (l : Level) (next : Role) → formula_limit l next ≡ Some Formula → 64 < depth_of l
+deep_whole_of l next e = not_at_most (depth_of l) (λ h. no_formula_at l next h e)

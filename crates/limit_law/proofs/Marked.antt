@@ -1,7 +1,7 @@
 -- What is said of a rule's derivation by where another one stands inside.
 use Rattle.std.proofs.Common.{◌≡◌, List, [], ◌∷◌, ◌++◌, refl, ap, sym, ◌∙◌, append_assoc}
 use Rattle.grammar.specs.Form.{Form, Grammar, Derives}
-use Rattle.grammar.specs.Form.Form.{Tok, Call, Empty, Seq, Alt, Star, Then}
+use Rattle.grammar.specs.Form.Form.{Call, Seq, Alt, Star, Then}
 use Rattle.limit_law.specs.Inside.{Inside}
 
 -- the form derives the tokens of the first list up to the second, and P says of one rule inside what it derives

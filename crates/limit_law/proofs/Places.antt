@@ -2,7 +2,7 @@
 use Rattle.std.proofs.Common.{◌≡◌, ◌≢◌, Bool, true, false, List, [], ◌∷◌, ◌++◌, refl, ap, sym, subst, ◌∙◌, append_assoc}
 use Rattle.std.specs.Prelude.{◌&&◌, ◌||◌, not}
 use Rattle.std.proofs.lemmas.Bool.{and_parts}
-use Rattle.grammar.specs.Form.{Derives, ◌⨾◌, ◌∣◌, opt}
+use Rattle.grammar.specs.Form.{Derives, ◌⨾◌, ◌∣◌}
 use Rattle.grammar.specs.Form.Form.{Tok, Call, Empty, Seq, Alt, Star, Then}
 use Rattle.ap_grammar.specs.declared.terminals.Terminal.{Terminal}
 use Rattle.ap_grammar.specs.declared.terminals.Terminal.TheVariants as t
@@ -194,7 +194,7 @@ one_place (Marked.right i) s = absurd (none_in refl i)
 
 -- ---- elements of preference statements
 
-other_fresh : (s : Levels) → IsFresh (after s roles.Other).level
+pub other_fresh : (s : Levels) → IsFresh (after s roles.Other).level
 other_fresh s = fresh_ended s.level.commas
 
 -- what is asked of a rule that begins where no formula stands
@@ -272,10 +272,10 @@ pub members_no_open : {xs ys : List Lexeme} {ws : List Value} → Derives gramma
 members_no_open Derives.none n = n
 members_no_open (Derives.more (Derives.seq (Derives.tok {t = x} e) d) rest) n = and_no_open (role_of x.terminal) (ap role_of e)
 
-or_begins : (s : Levels) → BeginsPart (after s roles.Or).level
+pub or_begins : (s : Levels) → BeginsPart (after s roles.Or).level
 or_begins s = record { conjunction = refl; negated = refl; member = refl }
 
-fresh_begins : (l : Level) → IsFresh l → BeginsPart l
+pub fresh_begins : (l : Level) → IsFresh l → BeginsPart l
 fresh_begins l h = record { conjunction = h.conjunction; negated = h.negated; member = h.member }
 
 conjunctions_place : {n : Name} {us vs : List Lexeme} {xs ys : List Lexeme} → Has n us vs (Star (Tok t.Or ⨾ Call Name.Conjunction)) xs ys → may_follow (next_role ys) ≡ true → (s : Levels) → Place n us vs s xs

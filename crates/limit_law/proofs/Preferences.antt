@@ -196,14 +196,15 @@ braces : {xs ys : List Lexeme} {vs : List Value} → Has (in_braces Name.Element
 braces (Reads.seq (Reads.tok {t = x} e) (Reads.seq (Reads.left (Reads.seq (Reads.call m) rest)) (Reads.tok {t = y} {ts = ys} f))) = elements_then (sign_element x (ap role_of e) m) (elements_then (elements_behind rest) (sign_alone y ys (ap role_of f)))
 braces (Reads.seq (Reads.tok {t = x} {ts = xs} e) (Reads.seq (Reads.right Reads.empty) (Reads.tok {t = y} {ts = ys} f))) = elements_then (sign_alone x xs (ap role_of e)) (sign_alone y ys (ap role_of f))
 
+-- the tokens before the elements
+pub opening_kept : (s o c p : Lexeme) {xs ms ns : List Lexeme} {v w : Value} → s.terminal ≡ t.Statement → o.terminal ≡ t.Open → ScansName xs (c ∷ ms) v → c.terminal ≡ t.Comma → ScansKind ms (p ∷ ns) w → p.terminal ≡ t.Close → Kept false (s ∷ o ∷ xs) ns
+opening_kept s o c p {xs = xs} {ms = ms} e f n g k h = kept_then (kept_token s (o ∷ xs) (rw e refl)) (grouped_kept (group o p (ap role_of f) (kept_then (name_kept n) (kept_then (kept_token c ms (rw g refl)) k.kept)) (ap role_of h)))
+
 preference_made : (s o c p d : Lexeme) {xs ms ns zs : List Lexeme} {v w : Value} {vs : List Value} → s.terminal ≡ t.Statement → o.terminal ≡ t.Open → ScansName xs (c ∷ ms) v → c.terminal ≡ t.Comma → ScansKind ms (p ∷ ns) w → p.terminal ≡ t.Close → Elements ns (d ∷ zs) vs → d.terminal ≡ t.Dot → ScansStatement (s ∷ o ∷ xs) zs (made Name.Preference (token s ∷ token o ∷ v ∷ token c ∷ w ∷ token p ∷ (vs ++ (token d ∷ []))))
 preference_made s o c p d {xs = xs} {ms = ms} {ns = ns} {zs = zs} {vs = vs} e f n g k h es i = rw (n.is, k.is) (record {
   same = refl;
-  whole = subst (λ ts. Whole (s ∷ o ∷ xs) zs (flat_map element_formulas ts)) (sym (es.are (token d ∷ []) ∙ append-nil es.trees)) (whole_dot d (kept_formed opening es.tail) (ap role_of i));
+  whole = subst (λ ts. Whole (s ∷ o ∷ xs) zs (flat_map element_formulas ts)) (sym (es.are (token d ∷ []) ∙ append-nil es.trees)) (whole_dot d (kept_formed (opening_kept s o c p e f n g k h) es.tail) (ap role_of i));
 })
-  where
-    opening : Kept false (s ∷ o ∷ xs) ns
-    opening = kept_then (kept_token s (o ∷ xs) (rw e refl)) (grouped_kept (group o p (ap role_of f) (kept_then (name_kept n) (kept_then (kept_token c ms (rw g refl)) k.kept)) (ap role_of h)))
 
 pub preference_scans : {xs ys : List Lexeme} {vs : List Value} → Has (rule_of Name.Preference) xs ys vs → ScansStatement xs ys (made Name.Preference vs)
 preference_scans (Reads.seq (Reads.tok {t = s} e) (Reads.seq (Reads.tok {t = o} f) (Reads.seq (Reads.call n) (Reads.seq (Reads.tok {t = c} g) (Reads.seq (Reads.call k) (Reads.seq (Reads.tok {t = p} h) (Reads.seq b (Reads.tok {t = d} i)))))))) = preference_made s o c p d e f n g k h (braces b) i

@@ -31,11 +31,11 @@ quiet_then xs ys s t e q r = quiet_append s xs ys q (subst (λ u. Quiet u ys) (s
 
 -- ---- token by token
 
-a_nesting : (b : Bool) → (if b then Some Nesting else None) ≢ Some Formula
+pub a_nesting : (b : Bool) → (if b then Some Nesting else None) ≢ Some Formula
 a_nesting true = λ e. cc
 a_nesting false = λ e. cc
 
-an_arity : (b : Bool) → (if b then Some Arity else None) ≢ Some Formula
+pub an_arity : (b : Bool) → (if b then Some Arity else None) ≢ Some Formula
 an_arity true = λ e. cc
 an_arity false = λ e. cc
 

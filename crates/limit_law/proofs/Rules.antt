@@ -22,7 +22,7 @@ use Rattle.limit_law.proofs.Formulas.{Behind, behind_is, conjunction_is, conjunc
 use Rattle.limit_law.proofs.Preferences.{domain_scans, element_scans, given_scans, preference_scans, ranked_scans, target_scans}
 use Rattle.limit_law.proofs.Statements.{base_plain, base_scans, const_plain, defined_plain, dotted, optimize_scans, plain_scans, rule_plain, show_plain, small_statement, statement_scans, text_scans, type_scans, type_section_scans}
 
-rule_scans : (n : Name) (xs ys : List Lexeme) (vs : List Value) → Has (rule_of n) xs ys vs → Scans n xs ys (made n vs)
+pub rule_scans : (n : Name) (xs ys : List Lexeme) (vs : List Value) → Has (rule_of n) xs ys vs → Scans n xs ys (made n vs)
 rule_scans Name.Ident xs ys vs d = name_scans d
 rule_scans Name.Arguments xs ys vs d = arguments_scans d
 rule_scans Name.Atom xs ys vs d = atom_scans d

@@ -49,11 +49,11 @@ pub base_plain : (vs : List Value) → Plain (made Name.BaseOpening vs)
 base_plain (Value.token first ∷ vs) = record { same = refl; none = refl }
 base_plain vs = record { same = refl; none = refl }
 
-type_plain : (vs : List Value) → Plain (made Name.TypeOpening vs)
+pub type_plain : (vs : List Value) → Plain (made Name.TypeOpening vs)
 type_plain (Value.token first ∷ Value.token word ∷ Value.token paren ∷ Value.kind name ∷ vs) = record { same = refl; none = refl }
 type_plain vs = record { same = refl; none = refl }
 
-optimize_plain : (vs : List Value) → Plain (made Name.Optimize vs)
+pub optimize_plain : (vs : List Value) → Plain (made Name.Optimize vs)
 optimize_plain (Value.token first ∷ Value.token paren ∷ Value.token name ∷ vs) = record { same = refl; none = refl }
 optimize_plain vs = record { same = refl; none = refl }
 
@@ -140,7 +140,7 @@ wholes_then {xs = xs} {zs = zs} us vs a b = subst (Whole xs zs) (sym (flat_map-a
 one_whole : {xs ys : List Lexeme} (v : Value) → Whole xs ys (formulas_in v) → Whole xs ys (flat_map formulas_in (v ∷ []))
 one_whole {xs = xs} {ys = ys} v a = subst (Whole xs ys) (sym (append-nil (formulas_in v))) a
 
-statements_scan : {whole of_type : Bool} {xs ys : List Lexeme} {vs : List Value} → Has (Star (Call (Name.Statement whole of_type))) xs ys vs → Whole xs ys (flat_map formulas_in vs)
+pub statements_scan : {whole of_type : Bool} {xs ys : List Lexeme} {vs : List Value} → Has (Star (Call (Name.Statement whole of_type))) xs ys vs → Whole xs ys (flat_map formulas_in vs)
 statements_scan (Reads.none {xs = xs}) = whole_none xs
 statements_scan (Reads.more {vs = vs} (Reads.call {v = v} m) rest) = wholes_then (v ∷ []) vs (one_whole v m.whole) (statements_scan rest)
 

@@ -141,7 +141,7 @@ two_named : (n : Bool) → member_depth n 1 ≤ 2
 two_named true = omega arith
 two_named false = omega arith
 
-bare_fresh : (l : Level) → IsFresh l → Bare 2 l
+pub bare_fresh : (l : Level) → IsFresh l → Bare 2 l
 bare_fresh l h = record { disjunction = h.disjunction; conjunction = h.conjunction; member = omega (arith, h.member); named = two_named l.negated; small = omega arith }
 
 -- tokens with no formula of their own

@@ -1,5 +1,5 @@
 // The laws.
-ghost use Rattle.std.specs.Prelude.{◌≡◌, ◌≢◌, ◌<◌, ◌≤◌, Bool, IfSome, List, None, Ok, Some, [], false, length, take, true, ℕ, ◌+◌, ◌++◌, ◌∷◌};
+ghost use Rattle.std.specs.Prelude.{◌≡◌, ◌≢◌, ◌<◌, ◌≤◌, Bool, IfSome, List, None, Ok, Some, [], drop, false, length, take, true, ℕ, ◌+◌, ◌++◌, ◌∷◌};
 ghost use Rattle.std.specs.List.{list_all};
 ghost use Rattle.grammar.specs.Fault.{IsText};
 ghost use Rattle.ap_grammar.specs.Grammar.{Name, grammar};
@@ -58,8 +58,20 @@ pub fn limit_of_a_text()
     ensures beginning { (whole of_type : Bool) (xs more : List Lexeme) (l : LimitAt) (statements : List Statement) → first_limit xs ≡ Some l → l.which ≡ limits.Formula → IsText grammar (Name.Text whole of_type) (take (l.index + 1) xs ++ more) (program statements) → list_all is_in_bounds (formulas_of statements) ≡ false }
 {}
 
-/// In a text of the grammar a limit of formulas stands at the last token of each formula that is deeper than 64, and the first limit stands no later.
+/// In a text of the grammar a limit of formulas stands at the last token of each formula that is deeper than 64, and nowhere else.
 pub fn place_of_a_limit()
     ensures stands { (whole of_type : Bool) (xs ending : List Lexeme) → DeepBefore (Name.Text whole of_type) xs ending → StandsBefore no_levels xs ending }
+    ensures only { (whole of_type : Bool) (xs ending : List Lexeme) (statements : List Statement) → IsText grammar (Name.Text whole of_type) xs (program statements) → StandsBefore no_levels xs ending → DeepBefore (Name.Text whole of_type) xs ending }
+    // So the first limit stands there or earlier.
     ensures first { (whole of_type : Bool) (before : List Lexeme) (here : Lexeme) (ending : List Lexeme) → DeepBefore (Name.Text whole of_type) (before ++ (here ∷ ending)) ending → IsUpTo (first_limit (before ++ (here ∷ ending))) (length before) }
+{}
+
+/// Where the first limit is one of formulas, a formula that is deeper than 64 ends at its token, in each text that begins with the tokens up to it and goes on with
+/// a token that does the same. The list itself may break behind it.
+pub fn place_of_the_first_limit()
+    ensures ends { (whole of_type : Bool) (xs more : List Lexeme) (l : LimitAt) (statements : List Statement) → first_limit xs ≡ Some l → l.which ≡ limits.Formula → next_role more ≡ next_role (drop (l.index + 1) xs) → IsText grammar (Name.Text whole of_type) (take (l.index + 1) xs ++ more) (program statements) → DeepBefore (Name.Text whole of_type) (take (l.index + 1) xs ++ more) more }
+    // None ends earlier in any text that begins so: behind the end of one there are no more tokens than behind the limit.
+    ensures least { (whole of_type : Bool) (xs more ending : List Lexeme) (l : LimitAt) → first_limit xs ≡ Some l → DeepBefore (Name.Text whole of_type) (take (l.index + 1) xs ++ more) ending → length ending ≤ length more }
+    // Where one ends in a text that begins so and goes on alike, there is a first limit, and it stands there or earlier.
+    ensures latest { (whole of_type : Bool) (before : List Lexeme) (here : Lexeme) (more behind : List Lexeme) → next_role more ≡ next_role behind → DeepBefore (Name.Text whole of_type) (before ++ (here ∷ more)) more → IsUpTo (first_limit (before ++ (here ∷ behind))) (length before) }
 {}
