@@ -68,7 +68,7 @@ fn passes(alloc: Global, case: &Case) -> Result<bool, AllocError> {
 
 /// Texts of one file, with the lines and the status of their runs: listings, what is shown, what is no text of the grammar, what
 /// is not of the small language, and the order of the refusals.
-const TEXTS: [(&str, &str, Status); 38] = [
+const TEXTS: [(&str, &str, Status); 42] = [
     (
         "{a;b}. :- not a, not b. #preference(p,subset){a;b}. #optimize(p).",
         "OPTIMUM 1: a\nOPTIMUM 2: b\nDONE 2\n",
@@ -161,6 +161,22 @@ const TEXTS: [(&str, &str, Status); 38] = [
         "LIMIT formula 64\n",
         Status::Limit,
     ),
+    (
+        "#preference(p,subset){a&a&a&a&a&a&a&a&a&a&a&a&a&a&a&a&a&a&a&a&a&a&a&a&a&a&a&a&a&a&a&a&a&a&a&a&a&a&a&a&a&a&a&a&a&a&a&a&a&a&a&a&a&a&a&a&a&a&a&a&a&a&a&a&a&}.",
+        "LIMIT formula 64\n",
+        Status::Limit,
+    ),
+    (
+        "#preference(p,subset){a&a&a&a&a&a&a&a&a&a&a&a&a&a&a&a&a&a&a&a&a&a&a&a&a&a&a&a&a&a&a&a&a&a&a&a&a&a&a&a&a&a&a&a&a&a&a&a&a&a&a&a&a&a&a&a&a&a&a&a&a&a&a&a|b&}.",
+        "SYNTAX 1:152\n",
+        Status::Syntax,
+    ),
+    (
+        "a b. p((((((((((((((((((((((((((((((((((",
+        "SYNTAX 1:2\n",
+        Status::Syntax,
+    ),
+    ("a(1). a :- .", "SYNTAX 1:11\n", Status::Syntax),
     (
         "p((((((((((((((((((((((((((((((((1)))))))))))))))))))))))))))))))).",
         "UNSUPPORTED 1:0 later\n",

@@ -15,10 +15,10 @@ use Rattle.ap_lexemes.specs.declared.limit.LimitAt.{LimitAt}
 use Rattle.ap_lexemes.specs.Limits.{Levels, after, first_limit, limit_at, limit_from, limit_or, next_role, no_levels, role_of}
 use Rattle.limit_law.specs.Depths.{depth, scan}
 use Rattle.limit_law.specs.Stands.{IsConjunction, IsFormula}
-use Rattle.limit_law.specs.Inside.{DeepBefore, EndsBefore, IsNode, IsUpTo, StandsBefore}
+use Rattle.limit_law.specs.Inside.{DeepBefore, EndsBefore, GoOnAlike, IsNode, IsUpTo, StandsBefore}
 use Rattle.limit_law.proofs.Quiet.{scan_append}
 use Rattle.limit_law.proofs.Last.{stands_before}
-use Rattle.limit_law.proofs.Limits.{limit_behind, limit_of_part}
+use Rattle.limit_law.proofs.Limits.{limit_alike, limit_behind, limit_of_part}
 use Rattle.limit_law.proofs.Marked.{Front, tokens_of}
 use Rattle.limit_law.proofs.Places.{Place, conjunction_placed, formula_placed, further_no_and, further_no_open, members_no_open}
 use Rattle.limit_law.proofs.Rules.{behind, conjunction_behind, conjunction_last}
@@ -80,17 +80,30 @@ limit_up_to s i (x ∷ before) ending here e = up_to_later (limit_from s i (x �
 same_length : (before other ending : List Lexeme) (here there : Lexeme) → before ++ (here ∷ ending) ≡ other ++ (there ∷ ending) → length other ≡ length before
 same_length before other ending here there e = let l : length (before ++ (here ∷ ending)) ≡ length (other ++ (there ∷ ending)) = ap length e in grind (arith, length-append)
 
+one_less : (before other ending : List Lexeme) (here there : Lexeme) → before ++ (here ∷ ending) ≡ other ++ (there ∷ ending) → before ++ (here ∷ []) ≡ other ++ (there ∷ [])
+one_less before other ending here there e = append_cancel_right (before ++ (here ∷ [])) (other ++ (there ∷ [])) ending (append_assoc before (here ∷ []) ending ∙ (e ∙ sym (append_assoc other (there ∷ []) ending)))
+
 same_front : (before other ending behind : List Lexeme) (here there : Lexeme) → before ++ (here ∷ ending) ≡ other ++ (there ∷ ending) → other ++ (there ∷ behind) ≡ before ++ (here ∷ behind)
 same_front before other ending behind here there e =
-    let same : before ++ (here ∷ []) ≡ other ++ (there ∷ []) = append_cancel_right (before ++ (here ∷ [])) (other ++ (there ∷ [])) ending (append_assoc before (here ∷ []) ending ∙ (e ∙ sym (append_assoc other (there ∷ []) ending))) in
-    sym (append_assoc other (there ∷ []) behind) ∙ (ap (λ ts. ts ++ behind) (sym same) ∙ append_assoc before (here ∷ []) behind)
+    sym (append_assoc other (there ∷ []) behind) ∙ (ap (λ ts. ts ++ behind) (sym (one_less before other ending here there e)) ∙ append_assoc before (here ∷ []) behind)
 
--- also where the tokens go on otherwise behind the next one
-pub stands_up_to : (before ending behind : List Lexeme) (here : Lexeme) → next_role ending ≡ next_role behind → StandsBefore no_levels (before ++ (here ∷ ending)) ending → IsUpTo (first_limit (before ++ (here ∷ behind))) (length before)
+same_here : (before other : List Lexeme) (here there : Lexeme) → before ++ (here ∷ []) ≡ other ++ (there ∷ []) → here ≡ there
+same_here [] [] here there e = cc
+same_here [] (y ∷ []) here there e = cc
+same_here [] (y ∷ z ∷ other) here there e = cc
+same_here (x ∷ []) [] here there e = cc
+same_here (x ∷ z ∷ before) [] here there e = cc
+same_here (x ∷ before) (y ∷ other) here there e = let rest : before ++ (here ∷ []) ≡ other ++ (there ∷ []) = cc in same_here before other here there rest
+
+-- also where the tokens behind it are others, if they go on alike
+pub stands_up_to : (before ending behind : List Lexeme) (here : Lexeme) → GoOnAlike (role_of here.terminal) (next_role ending) (next_role behind) → StandsBefore no_levels (before ++ (here ∷ ending)) ending → IsUpTo (first_limit (before ++ (here ∷ behind))) (length before)
 stands_up_to before ending behind here n h =
     subst (IsUpTo (first_limit (before ++ (here ∷ behind)))) (omega (arith, same_length before h.before ending here h.here h.are))
     (subst (λ ts. IsUpTo (first_limit ts) (0 + length h.before)) (same_front before h.before ending behind here h.here h.are)
-    (limit_up_to no_levels 0 h.before behind h.here (ap (limit_at (scan no_levels h.before) (role_of h.here.terminal)) (sym n) ∙ h.stands)))
+    (limit_up_to no_levels 0 h.before behind h.here (sym (limit_alike (scan no_levels h.before) (role_of h.here.terminal) (next_role ending) (next_role behind) alike) ∙ h.stands)))
+  where
+    alike : GoOnAlike (role_of h.here.terminal) (next_role ending) (next_role behind)
+    alike = subst (λ (x : Lexeme). GoOnAlike (role_of x.terminal) (next_role ending) (next_role behind)) (same_here before h.before here h.here (one_less before h.before ending here h.here h.are)) n
 
-pub deep_first : {whole of_type : Bool} (before ending behind : List Lexeme) (here : Lexeme) → next_role ending ≡ next_role behind → DeepBefore (Name.Text whole of_type) (before ++ (here ∷ ending)) ending → IsUpTo (first_limit (before ++ (here ∷ behind))) (length before)
+pub deep_first : {whole of_type : Bool} (before ending behind : List Lexeme) (here : Lexeme) → GoOnAlike (role_of here.terminal) (next_role ending) (next_role behind) → DeepBefore (Name.Text whole of_type) (before ++ (here ∷ ending)) ending → IsUpTo (first_limit (before ++ (here ∷ behind))) (length before)
 deep_first before ending behind here n d = stands_up_to before ending behind here n (deep_stands d)

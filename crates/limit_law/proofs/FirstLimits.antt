@@ -118,6 +118,12 @@ up_to before behind here n e = rw e (take-append-add before (here ∷ behind) 1)
 pub left_behind : (before behind : List Lexeme) (here : Lexeme) (n : ℕ) → n ≡ length before → drop (n + 1) (before ++ (here ∷ behind)) ≡ behind
 left_behind before behind here n e = rw e (drop-append-add before (here ∷ behind) 1)
 
+sum_zero : (n : ℕ) → n ≡ n + 0
+sum_zero n = omega arith
+
+pub left_at : (before behind : List Lexeme) (here : Lexeme) (n : ℕ) → n ≡ length before → drop n (before ++ (here ∷ behind)) ≡ here ∷ behind
+left_at before behind here n e = ap (λ k. drop k (before ++ (here ∷ behind))) (e ∙ sum_zero (length before)) ∙ drop-append-add before (here ∷ behind) 0
+
 -- and others behind them
 pub others_behind : (xs more : List Lexeme) (l : LimitAt) (p : FirstAt no_levels 0 xs l) → take (l.index + 1) xs ++ more ≡ p.before ++ (p.here ∷ more)
 others_behind xs more l p = ap (λ ts. take (l.index + 1) ts ++ more) p.are ∙ (ap (λ ts. ts ++ more) (up_to p.before p.behind p.here l.index (omega (arith, p.number))) ∙ append_assoc p.before (p.here ∷ []) more)

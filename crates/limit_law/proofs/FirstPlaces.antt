@@ -8,28 +8,35 @@ use Rattle.ap_grammar.specs.Lexemes.{Lexeme}
 use Rattle.ap_grammar.specs.Values.{Value}
 use Rattle.ap_lexemes.specs.declared.limit.Limit.TheVariants.{Formula}
 use Rattle.ap_lexemes.specs.declared.limit.LimitAt.{LimitAt}
-use Rattle.ap_lexemes.specs.Limits.{first_limit, limit_at, next_role, no_levels, role_of}
+use Rattle.ap_lexemes.specs.Limits.{first_limit, next_role, no_levels, role_of}
 use Rattle.ap_lexemes.proofs.LimitLemmas.{same-first}
 use Rattle.limit_law.specs.Depths.{scan}
-use Rattle.limit_law.specs.Inside.{DeepBefore, IsUpTo, StandsBefore}
-use Rattle.limit_law.proofs.FirstLimits.{FirstAt, first_at, left_behind, others_behind, same_limit}
+use Rattle.limit_law.specs.Inside.{DeepBefore, GoOnAlike, IsUpTo, StandsBefore}
+use Rattle.limit_law.proofs.FirstLimits.{FirstAt, first_at, left_at, left_behind, others_behind, same_limit}
 use Rattle.limit_law.proofs.DeepEnds.{deep_stands, stands_up_to}
 use Rattle.limit_law.proofs.Finds.{stands_deep}
+use Rattle.limit_law.proofs.Limits.{limit_alike}
 
 -- ---- there a formula that is too deep ends
 
-stands_there : (xs more : List Lexeme) (l : LimitAt) → FirstAt no_levels 0 xs l → l.which ≡ Formula → next_role more ≡ next_role (drop (l.index + 1) xs) → StandsBefore no_levels (take (l.index + 1) xs ++ more) more
+stands_there : (xs more : List Lexeme) (l : LimitAt) → FirstAt no_levels 0 xs l → l.which ≡ Formula → GoOnAlike (next_role (drop l.index xs)) (next_role more) (next_role (drop (l.index + 1) xs)) → StandsBefore no_levels (take (l.index + 1) xs ++ more) more
 stands_there xs more l p f e = record {
   before = p.before;
   here = p.here;
   are = others_behind xs more l p;
-  stands = ap (limit_at (scan no_levels p.before) (role_of p.here.terminal)) next ∙ (p.stands ∙ ap (λ w. Some w) f);
+  stands = limit_alike (scan no_levels p.before) (role_of p.here.terminal) (next_role more) (next_role p.behind) alike ∙ (p.stands ∙ ap (λ w. Some w) f);
 }
   where
-    next : next_role more ≡ next_role p.behind
-    next = e ∙ ap next_role (ap (drop (l.index + 1)) p.are ∙ left_behind p.before p.behind p.here l.index (omega (arith, p.number)))
+    behind : drop (l.index + 1) xs ≡ p.behind
+    behind = ap (drop (l.index + 1)) p.are ∙ left_behind p.before p.behind p.here l.index (omega (arith, p.number))
 
-pub deep_there : {whole of_type : Bool} {v : Value} (xs more : List Lexeme) (l : LimitAt) → first_limit xs ≡ Some l → l.which ≡ Formula → next_role more ≡ next_role (drop (l.index + 1) xs) → Derives grammar (Call (Name.Text whole of_type)) (take (l.index + 1) xs ++ more) [] (v ∷ []) → DeepBefore (Name.Text whole of_type) (take (l.index + 1) xs ++ more) more
+    there : drop l.index xs ≡ p.here ∷ p.behind
+    there = ap (drop l.index) p.are ∙ left_at p.before p.behind p.here l.index (omega (arith, p.number))
+
+    alike : GoOnAlike (role_of p.here.terminal) (next_role more) (next_role p.behind)
+    alike = subst (λ ts. GoOnAlike (role_of p.here.terminal) (next_role more) (next_role ts)) behind (subst (λ ts. GoOnAlike (next_role ts) (next_role more) (next_role (drop (l.index + 1) xs))) there e)
+
+pub deep_there : {whole of_type : Bool} {v : Value} (xs more : List Lexeme) (l : LimitAt) → first_limit xs ≡ Some l → l.which ≡ Formula → GoOnAlike (next_role (drop l.index xs)) (next_role more) (next_role (drop (l.index + 1) xs)) → Derives grammar (Call (Name.Text whole of_type)) (take (l.index + 1) xs ++ more) [] (v ∷ []) → DeepBefore (Name.Text whole of_type) (take (l.index + 1) xs ++ more) more
 deep_there xs more l e f n d = stands_deep d (stands_there xs more l (first_at no_levels 0 xs l e) f n)
 
 -- ---- none ends earlier
@@ -54,7 +61,7 @@ not_earlier : (before behind more ending : List Lexeme) (here : Lexeme) (l : Lim
 not_earlier before behind more ending here l n e h i =
     let shorter = lengths before h.before more ending here h.here h.are i in
     let front : before ++ (here ∷ more) ≡ (before ++ (here ∷ [])) ++ more = sym (append_assoc before (here ∷ []) more) in
-    let reached : IsUpTo (first_limit (before ++ (here ∷ more))) (length h.before) = subst (λ ts. IsUpTo (first_limit ts) (length h.before)) (sym h.are) (stands_up_to h.before ending ending h.here refl (subst (λ ts. StandsBefore no_levels ts ending) h.are h)) in
+    let reached : IsUpTo (first_limit (before ++ (here ∷ more))) (length h.before) = subst (λ ts. IsUpTo (first_limit ts) (length h.before)) (sym h.are) (stands_up_to h.before ending ending h.here (record { conjunction = refl; atom = refl }) (subst (λ ts. StandsBefore no_levels ts ending) h.are h)) in
     too_early (before ++ (here ∷ [])) more behind l (length h.before) (first_limit (before ++ (here ∷ more))) (ap first_limit (sym front)) reached (ap first_limit (append_assoc before (here ∷ []) behind) ∙ e) (omega (arith, n, shorter)) (omega (arith, n, front_length before here))
 
 pub least_there : {whole of_type : Bool} (xs more ending : List Lexeme) (l : LimitAt) → first_limit xs ≡ Some l → DeepBefore (Name.Text whole of_type) (take (l.index + 1) xs ++ more) ending → length ending ≤ length more

@@ -1,5 +1,5 @@
 -- The limit where a formula ends.
-use Rattle.std.proofs.Common.{◌≡◌, ◌≢◌, ℕ, ◌<◌, ◌≤◌, Bool, true, false, refl, sym, ◌∙◌, arith, if◌then◌else◌}
+use Rattle.std.proofs.Common.{◌≡◌, ◌≢◌, ℕ, ◌<◌, ◌≤◌, Bool, true, false, refl, sym, ap, ◌∙◌, arith, if◌then◌else◌}
 use Rattle.std.specs.Prelude.{Option, None, Some, not, ◌&&◌, ◌||◌}
 use Rattle.std.proofs.lemmas.Bool.Decides.{nat_tests}
 use Rattle.ap_lexemes.specs.declared.levels.Level.{Level}
@@ -7,8 +7,9 @@ use Rattle.ap_lexemes.specs.declared.limit.Limit.{Limit}
 use Rattle.ap_lexemes.specs.declared.limit.Limit.TheVariants.{Formula}
 use Rattle.ap_lexemes.specs.declared.role.Role.{Role}
 use Rattle.ap_lexemes.specs.declared.role.Role.TheVariants.{Name, Not, And, Or, Open, Close, Comma, Dot, Other}
-use Rattle.ap_lexemes.specs.Limits.{atom_limit, conjunction_depth, depth_of, formula_limit, is_and, is_too_deep, joined}
+use Rattle.ap_lexemes.specs.Limits.{Levels, after, atom_limit, conjunction_depth, depth_of, formula_limit, is_and, is_too_deep, joined, limit_at}
 use Rattle.limit_law.specs.Depths.{capped}
+use Rattle.limit_law.specs.Inside.{GoOnAlike, is_call}
 
 abbrev limit_by : Bool → Bool → Bool → Option Limit
 limit_by part is_next whole = if part || (not is_next && whole) then Some Formula else None
@@ -87,3 +88,37 @@ deep_part_of l next n e = not_at_most (conjunction_depth l) (λ h. not_formula (
 
 pub deep_whole_of : (l : Level) (next : Role) → formula_limit l next ≡ Some Formula → 64 < depth_of l
 deep_whole_of l next e = not_at_most (depth_of l) (λ h. no_formula_at l next h e)
+
+-- ---- what follows a limit counts only as far as it goes on with the conjunction or the atom
+
+abbrev atom_by : Bool → Option Limit → Option Limit
+atom_by true o = None
+atom_by false o = o
+
+atom_limit_by : (l : Level) (next : Role) → atom_limit l next ≡ atom_by (is_call Name next) (formula_limit l next)
+atom_limit_by l Open = refl
+atom_limit_by l Name = refl
+atom_limit_by l Not = refl
+atom_limit_by l And = refl
+atom_limit_by l Or = refl
+atom_limit_by l Close = refl
+atom_limit_by l Comma = refl
+atom_limit_by l Dot = refl
+atom_limit_by l Other = refl
+
+formula_alike : (l : Level) (next second : Role) → is_and next ≡ is_and second → formula_limit l next ≡ formula_limit l second
+formula_alike l next second e = ap (λ b. limit_by (is_too_deep (conjunction_depth l)) b (is_too_deep (depth_of l))) e
+
+pub limit_alike : (s : Levels) (role next second : Role) → GoOnAlike role next second → limit_at s role next ≡ limit_at s role second
+limit_alike s Name next second g =
+    atom_limit_by (after s Name).level next
+    ∙ (ap (λ b. atom_by b (formula_limit (after s Name).level next)) g.atom
+    ∙ (ap (atom_by (is_call Name second)) (formula_alike (after s Name).level next second g.conjunction) ∙ sym (atom_limit_by (after s Name).level second)))
+limit_alike s Close next second g = formula_alike (after s Close).level next second g.conjunction
+limit_alike s Not next second g = refl
+limit_alike s And next second g = refl
+limit_alike s Or next second g = refl
+limit_alike s Open next second g = refl
+limit_alike s Comma next second g = refl
+limit_alike s Dot next second g = refl
+limit_alike s Other next second g = refl

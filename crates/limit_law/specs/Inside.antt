@@ -1,5 +1,5 @@
 -- Formulas inside a text, and where they end.
-use Rattle.std.specs.Prelude.{◌≡◌, ℕ, ◌<◌, ◌≤◌, List, [], ◌∷◌, ◌++◌, Option, Some, None}
+use Rattle.std.specs.Prelude.{◌≡◌, ℕ, ◌<◌, ◌≤◌, Bool, false, true, List, [], ◌∷◌, ◌++◌, Option, Some, None}
 use Rattle.grammar.specs.Form.{Form, Grammar, Derives, ◌⨾◌}
 use Rattle.grammar.specs.Form.Form.{Tok, Call, Seq, Alt, Star, Then}
 use Rattle.ap_grammar.specs.declared.terminals.Terminal.{Terminal}
@@ -8,9 +8,11 @@ use Rattle.ap_grammar.specs.Grammar.{Name, grammar}
 use Rattle.ap_grammar.specs.Lexemes.{Lexeme}
 use Rattle.ap_grammar.specs.Values.{Value}
 use Rattle.ap_grammar.specs.Values.Value.{formula}
-use Rattle.ap_lexemes.specs.Limits.{Levels, limit_at, next_role, role_of}
+use Rattle.ap_lexemes.specs.Limits.{Levels, is_and, limit_at, next_role, role_of}
 use Rattle.ap_lexemes.specs.declared.limit.Limit.TheVariants as limits
 use Rattle.ap_lexemes.specs.declared.limit.LimitAt.{LimitAt}
+use Rattle.ap_lexemes.specs.declared.role.Role.{Role}
+use Rattle.ap_lexemes.specs.declared.role.Role.TheVariants as roles
 use Rattle.ap_syntax.specs.declared.preferences.Formula.{Formula}
 use Rattle.limit_law.specs.Depths.{depth, scan}
 
@@ -41,7 +43,8 @@ pub record IsNode (n part : Name) (sign : Terminal) (rule : Name) (text ending :
   pub others : List Value
   pub further : Derives grammar (Star (Tok sign ⨾ Call part)) ending stop others
 
--- In a text of this rule a formula ends before `ending`. What stands before a further `|` or `&` is one too, as where these signs are nested to the left.
+-- In a text of this rule a formula ends before `ending`. What stands before a further `|` or `&` is one too, as where these signs are nested to the left. A
+-- further member or conjunction is not listed on its own: what joins it to those before it ends at the same token and is deeper.
 pub data EndsBefore (rule : Name) (text ending : List Lexeme) (f : Formula) : Type 0 where
   disjunction : IsNode Name.Formula Name.Conjunction t.Or rule text ending f → EndsBefore rule text ending f
   conjunction : IsNode Name.Conjunction Name.Member t.And rule text ending f → EndsBefore rule text ending f
@@ -51,6 +54,16 @@ pub record DeepBefore (rule : Name) (text ending : List Lexeme) : Type 0 where
   pub tree : Formula
   pub ends : EndsBefore rule text ending tree
   pub deep : 64 < depth tree
+
+-- whether a token goes on with an atom whose name stands before it
+abbrev pub is_call : Role → Role → Bool
+is_call roles.Name roles.Open = true
+is_call role next = false
+
+-- Two tokens go on alike behind this one: both with its conjunction or neither, and both with its atom or neither.
+pub record GoOnAlike (role next another : Role) : Type 0 where
+  pub conjunction : is_and next ≡ is_and another
+  pub atom : is_call role next ≡ is_call role another
 
 -- a limit of formulas stands at the last token before `ending`
 pub record StandsBefore (s : Levels) (text ending : List Lexeme) : Type 0 where

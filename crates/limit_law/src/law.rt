@@ -5,7 +5,7 @@ ghost use Rattle.grammar.specs.Fault.{IsText};
 ghost use Rattle.ap_grammar.specs.Grammar.{Name, grammar};
 ghost use Rattle.ap_grammar.specs.Lexemes.{Lexeme};
 ghost use Rattle.ap_grammar.specs.Values.Value.{program};
-ghost use Rattle.ap_lexemes.specs.Limits.{Levels, depth_of, first_limit, formula_limit, next_role, no_levels};
+ghost use Rattle.ap_lexemes.specs.Limits.{Levels, depth_of, first_limit, formula_limit, next_role, no_levels, role_of};
 ghost use Rattle.ap_lexemes.specs.Texts.{IsOutcome};
 ghost use Rattle.ap_lexemes.specs.declared.limit.Limit.TheVariants as limits;
 ghost use Rattle.ap_lexemes.specs.declared.limit.LimitAt.{LimitAt};
@@ -14,7 +14,7 @@ ghost use Rattle.ap_lexemes.specs.declared.role.Role.TheVariants as roles;
 ghost use Rattle.ap_syntax.specs.declared.preferences.Formula.{Formula};
 ghost use Rattle.ap_syntax.specs.declared.programs.Statement.{Statement};
 ghost use Rattle.limit_law.specs.Depths.{capped, depth, scan};
-ghost use Rattle.limit_law.specs.Inside.{DeepBefore, IsUpTo, StandsBefore};
+ghost use Rattle.limit_law.specs.Inside.{DeepBefore, GoOnAlike, IsUpTo, StandsBefore};
 ghost use Rattle.limit_law.specs.Programs.{formulas_of, is_in_bounds};
 ghost use Rattle.limit_law.specs.Stands.{IsConjunction, IsFormula, Stands};
 
@@ -66,12 +66,12 @@ pub fn place_of_a_limit()
     ensures first { (whole of_type : Bool) (before : List Lexeme) (here : Lexeme) (ending : List Lexeme) → DeepBefore (Name.Text whole of_type) (before ++ (here ∷ ending)) ending → IsUpTo (first_limit (before ++ (here ∷ ending))) (length before) }
 {}
 
-/// Where the first limit is one of formulas, a formula that is deeper than 64 ends at its token, in each text that begins with the tokens up to it and goes on with
-/// a token that does the same. The list itself may break behind it.
+/// Where the first limit is one of formulas, a formula that is deeper than 64 ends at its token, in each text that begins with the tokens up to it and goes on alike:
+/// both with `&` or neither, and both with the arguments of the last name or neither. The list itself may break behind it.
 pub fn place_of_the_first_limit()
-    ensures ends { (whole of_type : Bool) (xs more : List Lexeme) (l : LimitAt) (statements : List Statement) → first_limit xs ≡ Some l → l.which ≡ limits.Formula → next_role more ≡ next_role (drop (l.index + 1) xs) → IsText grammar (Name.Text whole of_type) (take (l.index + 1) xs ++ more) (program statements) → DeepBefore (Name.Text whole of_type) (take (l.index + 1) xs ++ more) more }
+    ensures ends { (whole of_type : Bool) (xs more : List Lexeme) (l : LimitAt) (statements : List Statement) → first_limit xs ≡ Some l → l.which ≡ limits.Formula → GoOnAlike (next_role (drop l.index xs)) (next_role more) (next_role (drop (l.index + 1) xs)) → IsText grammar (Name.Text whole of_type) (take (l.index + 1) xs ++ more) (program statements) → DeepBefore (Name.Text whole of_type) (take (l.index + 1) xs ++ more) more }
     // None ends earlier in any text that begins so: behind the end of one there are no more tokens than behind the limit.
     ensures least { (whole of_type : Bool) (xs more ending : List Lexeme) (l : LimitAt) → first_limit xs ≡ Some l → DeepBefore (Name.Text whole of_type) (take (l.index + 1) xs ++ more) ending → length ending ≤ length more }
     // Where one ends in a text that begins so and goes on alike, there is a first limit, and it stands there or earlier.
-    ensures latest { (whole of_type : Bool) (before : List Lexeme) (here : Lexeme) (more behind : List Lexeme) → next_role more ≡ next_role behind → DeepBefore (Name.Text whole of_type) (before ++ (here ∷ more)) more → IsUpTo (first_limit (before ++ (here ∷ behind))) (length before) }
+    ensures latest { (whole of_type : Bool) (before : List Lexeme) (here : Lexeme) (more behind : List Lexeme) → GoOnAlike (role_of here.terminal) (next_role more) (next_role behind) → DeepBefore (Name.Text whole of_type) (before ++ (here ∷ more)) more → IsUpTo (first_limit (before ++ (here ∷ behind))) (length before) }
 {}

@@ -10,4 +10,4 @@ pub returns-clause-only : goal.returns-clause-only
 returns-clause-only c = λ whole of_type xs ending statements d h. stands_deep d h
 
 pub returns-clause-first : goal.returns-clause-first
-returns-clause-first c = λ whole of_type before here ending d. deep_first before ending ending here refl d
+returns-clause-first c = λ whole of_type before here ending d. deep_first before ending ending here (record { conjunction = refl; atom = refl }) d
