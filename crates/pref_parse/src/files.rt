@@ -1,5 +1,8 @@
 // Whole files.
-ghost use Rattle.std.specs.Prelude.{◌≤◌, length};
+ghost use Rattle.std.specs.Prelude.{◌≡◌, ◌≢◌, ◌≤◌, ℕ, Err, List, Result, length};
+ghost use Rattle.ap_syntax.specs.declared.programs.Program.{Program as ProgramSpec};
+ghost use Rattle.ap_lexemes.specs.declared.fault.ParseFault.{ParseFault as FaultSpec};
+ghost use Rattle.ap_lexemes.specs.declared.fault.ParseFault.TheVariants as faults;
 ghost use Rattle.pref_parse.specs.Readings.{IsReading};
 
 use crate::sections::read_text;
@@ -23,3 +26,8 @@ pub fn parse_bytes(alloc: Global, bytes: &[u8], file: u32) -> Result<Program, Pa
     let read = read_text(alloc, &mut tokens, false);
     program(alloc, &tokenized, PartKind::Base, read, tokens.left())
 }
+
+/// The bytes of a file come to one answer, unless memory runs out.
+pub fn one_reading()
+    ensures { (bytes : List ℕ) (file : ℕ) (r s : Result ProgramSpec FaultSpec) → IsReading bytes file r → IsReading bytes file s → r ≢ Err faults.Memory → s ≢ Err faults.Memory → r ≡ s }
+{}

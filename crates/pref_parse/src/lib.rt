@@ -10,7 +10,7 @@ mod ranked;
 mod sections;
 mod statements;
 
-pub use files::parse_bytes;
+pub use files::{one_reading, parse_bytes};
 
 #[cfg(test)]
 mod tests;
