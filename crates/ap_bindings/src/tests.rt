@@ -72,7 +72,7 @@ fn choice(alloc: Global, texts: &[&str], within: &[&str]) -> Result<HeadForm, Al
     })?;
     Ok(HeadForm::Choice {
         left: None,
-        elements,
+        elements: Boxed::new(alloc, elements)?,
         right: None,
     })
 }
@@ -96,7 +96,7 @@ fn count(
         negated: false,
         left: Some(Boxed::new(alloc, guard)?),
         function: Function::Count,
-        elements,
+        elements: Boxed::new(alloc, elements)?,
         right: None,
     })
 }

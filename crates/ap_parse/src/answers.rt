@@ -13,9 +13,8 @@ ghost use Rattle.ap_parse.specs.Texts.{IsAnswer, IsReading};
 
 use crate::changes::changing;
 use ap_lexemes::{ParseFault, Tokenized};
-use ap_syntax::{PartKind, Program, Statement};
+use ap_syntax::{PartKind, Program, Statements};
 use literal_parse::Stop;
-use sqlite_items::Items;
 use std::alloc::Global;
 
 /// What the tokens of a text come to, by what reading them up to the first limit came to and how many of those are left.
@@ -65,7 +64,7 @@ pub fn program(
     alloc: Global,
     tokenized: &Tokenized<'_>,
     part: PartKind,
-    read: Result<Items<Statement>, Stop>,
+    read: Result<Statements, Stop>,
     left: usize,
 ) -> Result<Program, ParseFault>
     requires { left ≤ length (readable (tokens_of tokenized.now)) }

@@ -58,14 +58,13 @@ fn read_behind(alloc: Global, tokens: &mut Cursor<'_>, left: Operand) -> Result<
     ensures shorter { length tokens.new ≤ length tokens.old }
 {
     if let Some(rel) = relation(tokens) {
-        return read_related(alloc, tokens, left.into_term(), rel);
+        let left = left.into_term(alloc)?;
+        return read_related(alloc, tokens, left, rel);
     }
     if begins_aggregate(tokens) {
         let aggregate = read_aggregate(alloc, tokens)?;
-        let guard = Guard {
-            rel: Rel::Le,
-            term: left.into_term(),
-        };
+        let term = left.into_term(alloc)?;
+        let guard = Guard { rel: Rel::Le, term };
         return Ok(Core::Aggregate {
             negated: false,
             left: Some(Boxed::new(alloc, guard)?),
@@ -92,7 +91,7 @@ fn read_related(alloc: Global, tokens: &mut Cursor<'_>, left: Term, rel: Rel) ->
     }
     let right = read_term(alloc, tokens)?;
     let left = Boxed::new(alloc, left)?;
-    let right = Boxed::new(alloc, right.into_term())?;
+    let right = right.boxed(alloc)?;
     Ok(Core::Literal(Literal::Compare(left, rel, right)))
 }
 
@@ -120,10 +119,8 @@ fn read_negated_behind(alloc: Global, tokens: &mut Cursor<'_>, left: Operand) ->
 {
     if let Some(rel) = relation(tokens) {
         let aggregate = read_aggregate(alloc, tokens)?;
-        let guard = Guard {
-            rel,
-            term: left.into_term(),
-        };
+        let term = left.into_term(alloc)?;
+        let guard = Guard { rel, term };
         return Ok(Core::Aggregate {
             negated: true,
             left: Some(Boxed::new(alloc, guard)?),
@@ -132,10 +129,8 @@ fn read_negated_behind(alloc: Global, tokens: &mut Cursor<'_>, left: Operand) ->
     }
     if begins_aggregate(tokens) {
         let aggregate = read_aggregate(alloc, tokens)?;
-        let guard = Guard {
-            rel: Rel::Le,
-            term: left.into_term(),
-        };
+        let term = left.into_term(alloc)?;
+        let guard = Guard { rel: Rel::Le, term };
         return Ok(Core::Aggregate {
             negated: true,
             left: Some(Boxed::new(alloc, guard)?),
@@ -163,7 +158,7 @@ fn read_item(alloc: Global, tokens: &mut Cursor<'_>) -> Result<BodyItem, Stop>
                 negated,
                 left,
                 function: aggregate.function,
-                elements: aggregate.elements,
+                elements: Boxed::new(alloc, aggregate.elements)?,
                 right: aggregate.right,
             });
         }

@@ -2,8 +2,7 @@
 ghost use Rattle.std.specs.Prelude.{◌≡◌, IfOk, IsTrue, reverse};
 ghost use Rattle.ap_parse.specs.Changes.{changing, part_after, repeats, same_part};
 
-use ap_syntax::{PartKind, Statement, fitted};
-use sqlite_items::Items;
+use ap_syntax::{PartKind, Statement, Statements};
 use std::alloc::{AllocError, Global};
 
 // Whether two parts are one.
@@ -72,14 +71,14 @@ fn copy_part(alloc: Global, part: &PartKind) -> Result<PartKind, AllocError>
 }
 
 // The statements from the last to the first.
-fn reversed(alloc: Global, mut statements: Items<Statement>) -> Result<Items<Statement>, AllocError>
+fn reversed(alloc: Global, mut statements: Statements) -> Result<Statements, AllocError>
     ensures { IfOk result (λ all. all ≡ reverse statements) }
 {
     let mut all = Vec::with_capacity(alloc, statements.len())?;
     'statements: while let Some(last) = statements.pop() {
         all.push(last)?;
     }
-    Ok(Items::from_vec(all))
+    Ok(Statements::fitted(all))
 }
 
 /// The statements without each `#program` that opens the part already in force, which is at first this one. It fails for want
@@ -87,8 +86,8 @@ fn reversed(alloc: Global, mut statements: Items<Statement>) -> Result<Items<Sta
 pub fn changing(
     alloc: Global,
     first: PartKind,
-    statements: Items<Statement>,
-) -> Result<Items<Statement>, AllocError>
+    statements: Statements,
+) -> Result<Statements, AllocError>
     ensures { IfOk result (λ all. all ≡ changing first statements) }
 {
     if all_change(&first, statements.as_slice()) {
@@ -103,5 +102,5 @@ pub fn changing(
             kept.push(next)?;
         }
     }
-    Ok(fitted(kept))
+    Ok(Statements::fitted(kept))
 }

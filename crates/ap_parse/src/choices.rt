@@ -89,6 +89,7 @@ pub fn read_choice(
 {
     let elements = read_braced(alloc, tokens)?;
     let right = read_optional_guard(alloc, tokens)?;
+    let elements = Boxed::new(alloc, elements)?;
     Ok(HeadForm::Choice {
         left,
         elements,

@@ -49,11 +49,9 @@ pub fn read_right_guard(alloc: Global, tokens: &mut Cursor<'_>) -> Result<Guard,
     ensures shorter { length tokens.new ≤ length tokens.old }
 {
     let rel = relation(tokens).unwrap_or(Rel::Le);
-    let term = read_term(alloc, tokens)?;
-    Ok(Guard {
-        rel,
-        term: term.into_term(),
-    })
+    let read = read_term(alloc, tokens)?;
+    let term = read.into_term(alloc)?;
+    Ok(Guard { rel, term })
 }
 
 /// A guard behind the braces. Where none begins it answers nothing, and no token is read.

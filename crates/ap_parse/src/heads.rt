@@ -57,12 +57,12 @@ pub fn read_head(alloc: Global, tokens: &mut Cursor<'_>) -> Result<HeadForm, Sto
     }
     let first = read_term(alloc, tokens)?;
     if let Some(rel) = relation(tokens) {
-        let term = first.into_term();
+        let term = first.into_term(alloc)?;
         let guard = Boxed::new(alloc, Guard { rel, term })?;
         return read_choice(alloc, tokens, Some(guard));
     }
     if tokens.sees(Terminal::OpenBrace) {
-        let term = first.into_term();
+        let term = first.into_term(alloc)?;
         let guard = Boxed::new(alloc, Guard { rel: Rel::Le, term })?;
         return read_choice(alloc, tokens, Some(guard));
     }

@@ -216,7 +216,7 @@ fn push_head(alloc: Global, pieces: &mut Items<Piece>, head: &HeadForm) -> Resul
             left,
             elements,
             right,
-        } => push_choice(alloc, pieces, left, elements.as_slice(), right),
+        } => push_choice(alloc, pieces, left, elements.get().as_slice(), right),
         HeadForm::Nothing => Ok(()),
     }
 }
@@ -249,7 +249,7 @@ fn push_item(alloc: Global, pieces: &mut Items<Piece>, item: &BodyItem) -> Resul
             function: _,
             elements,
             right,
-        } => { push_aggregate(alloc, pieces, left, elements.as_slice(), right) }
+        } => { push_aggregate(alloc, pieces, left, elements.get().as_slice(), right) }
     }
 }
 

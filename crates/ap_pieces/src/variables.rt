@@ -86,7 +86,7 @@ fn push_term(
             name: None,
             is_argument: free,
         }),
-        Term::Fun(_, terms) => push_terms(alloc, found, terms.as_slice(), free),
+        Term::Fun(_, terms) => push_terms(alloc, found, terms.get().as_slice(), free),
         Term::Tuple(terms) => push_terms(alloc, found, terms.as_slice(), free),
         Term::Minus(term) => push_operand(alloc, found, term.get()),
         Term::Sum(left, _, right) => {

@@ -153,7 +153,7 @@ fn head(alloc: Global, line: &Line) -> Result<HeadForm, AllocError> {
     }
     Ok(HeadForm::Choice {
         left: None,
-        elements,
+        elements: Boxed::new(alloc, elements)?,
         right: None,
     })
 }
@@ -312,7 +312,7 @@ fn count_of_q(alloc: Global) -> Result<BodyItem, AllocError> {
         negated: false,
         left: Some(left),
         function: Function::Count,
-        elements,
+        elements: Boxed::new(alloc, elements)?,
         right: None,
     })
 }
@@ -437,7 +437,7 @@ fn choice(alloc: Global, name: &str) -> Result<Rule, AllocError> {
     let elements = only(alloc, allowed(alloc, name, false)?)?;
     let head = HeadForm::Choice {
         left: None,
-        elements,
+        elements: Boxed::new(alloc, elements)?,
         right: None,
     };
     Ok(Rule {

@@ -1,7 +1,6 @@
 -- The canonical text of preference statements.
 use Rattle.std.specs.Prelude.{ℕ, ◌==◌, not, List, [], ◌∷◌, ◌++◌, map, codes, Option, Some, None, take, drop, length, ◌-◌}
 use Rattle.std.specs.List.{prefix_len}
-use Rattle.ap_syntax.specs.declared.terms.Literal.{Literal}
 use Rattle.ap_syntax.specs.declared.terms.Term.{Term}
 use Rattle.ap_syntax.specs.declared.preferences.Element.{Element}
 use Rattle.ap_syntax.specs.declared.preferences.Formula.{Formula, fold-Formula}
@@ -11,7 +10,7 @@ use Rattle.ap_syntax.specs.declared.preferences.Ranked.{Ranked}
 use Rattle.ap_syntax.specs.declared.preferences.Target.{Target}
 use Rattle.ap_syntax.specs.declared.preferences.Target.TheVariants.{For, Name}
 use Rattle.ap_syntax.specs.Pieces.{Piece, in_braces, in_parentheses, parted, semicolons, spaced, spaced_behind, spelled}
-use Rattle.ap_syntax.specs.CanonicalTerms.{Written, at_least, atom_pieces, literals_pieces, terms_pieces}
+use Rattle.ap_syntax.specs.CanonicalTerms.{Written, at_least, atom_pieces, terms_pieces}
 use Rattle.ap_syntax.specs.CanonicalRules.{condition_pieces}
 
 abbrev pub formula_step : Formula-F Written → Written

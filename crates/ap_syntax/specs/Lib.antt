@@ -5,3 +5,4 @@ pub mod CanonicalPreferences
 pub mod Canonical
 pub mod Separators
 pub mod CanonicalFormulas
+pub mod Spellings

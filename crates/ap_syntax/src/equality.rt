@@ -36,7 +36,7 @@ fn same_term(one: &Term, other: &Term) -> bool
             (Term::Var(a), Term::Var(b)) => return *a == *b,
             (Term::Any, Term::Any) => return true,
             (Term::Fun(a, s), Term::Fun(b, t)) => return *a == *b
-                && same_terms(s.as_slice(), t.as_slice()),
+                && same_terms(s.get().as_slice(), t.get().as_slice()),
             (Term::Tuple(s), Term::Tuple(t)) => return same_terms(s.as_slice(), t.as_slice()),
             (Term::Minus(a), Term::Minus(b)) => (one, other) = (a.get(), b.get()),
             (Term::Sum(a, o, b), Term::Sum(c, p, d)) if *o == *p && same_term(b.get(), d.get()) => (

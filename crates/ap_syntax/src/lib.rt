@@ -1,7 +1,6 @@
 //! Syntax trees of programs.
 #![tactic(auto)]
 
-mod copies;
 mod equality;
 mod lists;
 mod preferences;
@@ -11,7 +10,6 @@ mod printed_preferences;
 mod printed_rules;
 mod printed_terms;
 mod programs;
-mod rule_copies;
 mod rules;
 pub mod small;
 mod terms;
@@ -20,7 +18,7 @@ mod text;
 pub use lists::fitted;
 pub use preferences::{Element, Formula, Preference, Ranked, Target};
 pub use printed::print_program;
-pub use programs::{PartKind, Program, Statement};
+pub use programs::{PartKind, Program, Statement, Statements};
 pub use rules::{AggElement, BodyItem, ChoiceElement, Function, Guard, HeadForm, Rule};
 pub use terms::{Atom, Literal, ProductOp, Rel, SumOp, Term};
 pub use text::Text;

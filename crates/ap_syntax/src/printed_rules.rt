@@ -131,7 +131,7 @@ fn push_item(item: &BodyItem, out: &mut String) -> Result<(), AllocError>
             right,
         } => {
             push_negation(*negated, out)?;
-            push_aggregate(left, *function, elements.as_slice(), right, out)
+            push_aggregate(left, *function, elements.get().as_slice(), right, out)
         }
     }
 }
@@ -171,7 +171,7 @@ fn push_head(head: &HeadForm, out: &mut String) -> Result<(), AllocError>
             right,
         } => {
             push_left(left, out)?;
-            push_braced(elements.as_slice(), out)?;
+            push_braced(elements.get().as_slice(), out)?;
             push_right(right, out)
         }
         HeadForm::Nothing => Ok(()),

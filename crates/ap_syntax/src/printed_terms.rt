@@ -121,7 +121,7 @@ pub(crate) fn push_term(term: &Term, out: &mut String) -> Result<(), AllocError>
         Term::Const(name) => out.push_str(name.as_str()),
         Term::Var(name) => out.push_str(name.as_str()),
         Term::Any => out.push_str("_"),
-        Term::Fun(name, terms) => push_applied(name, terms.as_slice(), out),
+        Term::Fun(name, terms) => push_applied(name, terms.get().as_slice(), out),
         Term::Tuple(terms) => push_tuple(terms.as_slice(), out),
         Term::Minus(part) => {
             out.push_str("-")?;

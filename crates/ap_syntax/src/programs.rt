@@ -1,9 +1,12 @@
 // Statements and programs.
+ghost use Rattle.std.specs.Prelude.{◌≡◌, [], ◌∷◌, ◌++◌, length, IsTrue, MatchOption, OnOk, ◌↔◌};
+
 use crate::preferences::Preference;
 use crate::rules::Rule;
 use crate::terms::Term;
 use crate::text::Text;
-use sqlite_items::Items;
+use std::alloc::{AllocError, Global};
+use std::marker::Model;
 
 /// A part of a program, to which the rules behind its `#program` belong.
 #[derive(Debug, Drop)]
@@ -56,9 +59,87 @@ pub enum Statement {
     },
 }
 
+/// Statements, which contracts see as their list. Those that are taken from the end give their memory back as they go.
+#[derive(Debug, Drop)]
+pub struct Statements {
+    list: Vec<Statement>,
+}
+
+impl Model for Statements {
+    ghost use Rattle.std.specs.Prelude.{List};
+    ghost use Rattle.std.specs.Coded.{coded_list};
+    ghost use Rattle.ap_syntax.specs.declared.programs.Statement.{Statement};
+    ghost use Rattle.ap_syntax.specs.contracts.programs.Statement as statements;
+
+    ghost Value = { List Statement };
+
+    ghost coded = { coded_list statements.the_row.coded };
+
+    ghost view = { λ s. s.list.items };
+}
+
+impl Statements {
+    /// No statement.
+    pub fn new(alloc: Global) -> Statements
+        ensures { result ≡ [] }
+    {
+        Statements {
+            list: Vec::new(alloc),
+        }
+    }
+
+    /// The statements of a list. The code asks for a block of their length; the contract sees the statements alone.
+    pub fn fitted(mut list: Vec<Statement>) -> Statements
+        ensures { result ≡ list.items }
+    {
+        list.shrink_to_fit();
+        Statements { list }
+    }
+
+    /// The statements, in order.
+    pub fn as_slice(&self) -> &[Statement]
+        ensures { result.now ≡ self.now }
+    {
+        self.list.as_slice()
+    }
+
+    /// How many they are.
+    pub fn len(&self) -> usize
+        ensures { result ≡ length self.now }
+    {
+        self.list.len()
+    }
+
+    /// Whether there are none.
+    pub fn is_empty(&self) -> bool
+        ensures { IsTrue result ↔ (self.now ≡ []) }
+    {
+        self.list.is_empty()
+    }
+
+    /// Moves the statements of `more` to the end.
+    pub fn append(&mut self, more: Statements) -> Result<(), AllocError>
+        ensures { OnOk result (self.new ≡ self.old ++ more) }
+    {
+        let Statements { mut list } = more;
+        self.list.append(&mut list)
+    }
+
+    /// Takes the last statement, if there is one. Where half of the block is not used any more, it is given back.
+    pub fn pop(&mut self) -> Option<Statement>
+        ensures { MatchOption result ((self.old ≡ []) × (self.new ≡ [])) (λ last. self.old ≡ self.new ++ last ∷ []) }
+    {
+        let last = self.list.pop();
+        if self.list.len() < self.list.capacity() / 2 {
+            self.list.shrink_to_fit();
+        }
+        last
+    }
+}
+
 /// A program.
 #[derive(Debug, Drop)]
 pub struct Program {
     /// Its statements, in the order of the text.
-    pub statements: Items<Statement>,
+    pub statements: Statements,
 }

@@ -62,13 +62,13 @@ pub enum BodyItem {
         /// What is computed.
         function: Function,
         /// The elements between the braces.
-        elements: Items<AggElement>,
+        elements: Boxed<Items<AggElement>>,
         /// The guard on the right.
         right: Option<Boxed<Guard>>,
     },
 }
 
-/// What a rule derives. The guards of a choice are boxed, so that a rule with an atom is small.
+/// What a rule derives. What a choice has is boxed, so that a rule with an atom is small.
 #[derive(Debug, Drop)]
 pub enum HeadForm {
     /// An atom.
@@ -78,7 +78,7 @@ pub enum HeadForm {
         /// The guard on the left.
         left: Option<Boxed<Guard>>,
         /// The elements between the braces.
-        elements: Items<ChoiceElement>,
+        elements: Boxed<Items<ChoiceElement>>,
         /// The guard on the right.
         right: Option<Boxed<Guard>>,
     },

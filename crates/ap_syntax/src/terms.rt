@@ -52,8 +52,8 @@ pub enum Term {
     Var(Text),
     /// `_`, a variable of its own at each place.
     Any,
-    /// A compound: a name and its arguments, 1 to 32 of them.
-    Fun(Text, Items<Term>),
+    /// A compound: a name and its arguments, 1 to 32 of them. They are boxed, so that other terms are small.
+    Fun(Text, Boxed<Items<Term>>),
     /// A tuple of 0 to 32 members.
     Tuple(Items<Term>),
     /// The negation of a number.
@@ -74,7 +74,7 @@ impl Drop for Term {
             match self {
                 Term::Int(_) | Term::Any => return,
                 Term::Str(_text) | Term::Const(_text) | Term::Var(_text) => return,
-                Term::Fun(_name, terms) => return let_go(terms),
+                Term::Fun(_name, terms) => return let_go(terms.into_inner()),
                 Term::Tuple(terms) => return let_go(terms),
                 Term::Minus(part) => self = part.into_inner(),
                 Term::Sum(left, _, right) => {

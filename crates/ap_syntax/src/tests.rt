@@ -1,7 +1,7 @@
-// Copies and comparisons succeed where memory is ample, and texts are as they are written by hand.
+// Texts, lists and comparisons where memory is ample, and programs as they are written by hand.
 use crate::{
     Atom, BodyItem, ChoiceElement, Guard, HeadForm, Literal, PartKind, ProductOp, Program, Rel,
-    Rule, Statement, SumOp, Term, Text, print_program,
+    Rule, Statement, Statements, SumOp, Term, Text, print_program,
 };
 use sqlite_items::{Boxed, Items};
 use std::alloc::{AllocError, Global};
@@ -28,29 +28,8 @@ fn compares(rt: HostRuntime) -> Result<(), Fail> {
     let alloc = rt.alloc();
     let one = atom(alloc, Term::Any)?;
     let other = atom(alloc, Term::Int(1))?;
-    let copied = one.copy(alloc)?;
-    assert!(rt; copied.equals(&one));
-    assert!(rt; !copied.equals(&other));
-    Ok(())
-}
-
-#[test]
-fn copies_a_rule(rt: HostRuntime) -> Result<(), Fail> {
-    let alloc = rt.alloc();
-    // p(1 + _) :- 1 != 1 + 1.
-    let mut body = Vec::new(alloc);
-    let left = Boxed::new(alloc, Term::Int(1))?;
-    let right = Boxed::new(alloc, sum(alloc, Term::Int(1))?)?;
-    body.push(BodyItem::Plain(Literal::Compare(left, Rel::Ne, right)))?;
-    let rule = Rule {
-        file: 1,
-        at: 7,
-        head: HeadForm::One(atom(alloc, Term::Any)?),
-        body: Items::from_vec(body),
-    };
-    let copied = rule.copy(alloc)?;
-    assert_eq!(rt; copied.at, 7);
-    assert_eq!(rt; copied.body.len(), 1);
+    assert!(rt; one.equals(&atom(alloc, Term::Any)?));
+    assert!(rt; !one.equals(&other));
     Ok(())
 }
 
@@ -76,6 +55,31 @@ fn compares_and_lets_go_of_long_chains(rt: HostRuntime) -> Result<(), Fail> {
     let other = summed(alloc, long_sum(alloc)?, SumOp::Less, Term::Int(1))?;
     assert!(rt; one.equals(&one));
     assert!(rt; !one.equals(&other));
+    Ok(())
+}
+
+#[test]
+fn keeps_texts_of_each_length(rt: HostRuntime) -> Result<(), Fail> {
+    let alloc = rt.alloc();
+    for text in ["", "a", "assigned", "wednesday", "näherin", "nähmaschinen"] {
+        let kept = Text::new(alloc, text)?;
+        assert_eq!(rt; kept.as_str(), text);
+        assert_eq!(rt; kept.copy(alloc)?.as_str(), text);
+    }
+    assert!(rt; Text::new(alloc, "assigned")? < Text::new(alloc, "wednesday")?);
+    Ok(())
+}
+
+#[test]
+fn takes_statements_from_the_end(rt: HostRuntime) -> Result<(), Fail> {
+    let alloc = rt.alloc();
+    let mut all = Statements::new(alloc);
+    assert!(rt; all.is_empty());
+    all.append(Statements::fitted(two_parts(alloc)?))?;
+    all.append(Statements::fitted(operators(alloc)?))?;
+    assert_eq!(rt; all.len(), 11);
+    while let Some(_) = all.pop() {}
+    assert_eq!(rt; all.as_slice().len(), 0);
     Ok(())
 }
 
@@ -119,7 +123,7 @@ fn operators(alloc: Global) -> Result<Vec<Statement>, AllocError> {
 #[test]
 fn prints_operators(rt: HostRuntime) -> Result<(), Fail> {
     let alloc = rt.alloc();
-    let statements = Items::from_vec(operators(alloc)?);
+    let statements = Statements::fitted(operators(alloc)?);
     let mut out = String::new(alloc);
     print_program(&Program { statements }, &mut out)?;
     let text =
@@ -159,7 +163,7 @@ fn choice(alloc: Global) -> Result<HeadForm, AllocError> {
     elements.push(ChoiceElement { atom, condition })?;
     Ok(HeadForm::Choice {
         left: guard(alloc, Rel::Le, Term::Int(1))?,
-        elements: Items::from_vec(elements),
+        elements: Boxed::new(alloc, Items::from_vec(elements))?,
         right: guard(alloc, Rel::Ne, Term::Tuple(Items::new(alloc)))?,
     })
 }
@@ -222,7 +226,7 @@ fn two_parts(alloc: Global) -> Result<Vec<Statement>, AllocError> {
 #[test]
 fn prints_rules(rt: HostRuntime) -> Result<(), Fail> {
     let alloc = rt.alloc();
-    let statements = Items::from_vec(two_parts(alloc)?);
+    let statements = Statements::fitted(two_parts(alloc)?);
     let mut out = String::new(alloc);
     print_program(&Program { statements }, &mut out)?;
     let text =

@@ -1,25 +1,40 @@
 // A text that contracts see as its bytes.
 ghost use Rattle.std.specs.Prelude.{◌≡◌, IfOk};
 
+use arrayvec::ArrayString;
+use sqlite_items::Boxed;
 use std::alloc::{AllocError, Global};
 use std::cmp::Ordering;
 use std::marker::Model;
 
-/// A text, which contracts see as its bytes. Texts are ordered by their bytes, a proper prefix first.
+/// Where the bytes of a text stand. Those of a short one stand in the value itself, so that most names need no block of their
+/// own; a long one is boxed, so that the value is no larger for it.
+#[derive(Debug, Drop)]
+enum Spelling {
+    /// At most eight bytes.
+    Short(ArrayString<8>),
+    /// More of them.
+    Long(Boxed<String>),
+}
+
+/// A text, which contracts see as its bytes. Texts are ordered by their bytes, a proper prefix first. One of at most eight bytes
+/// needs no memory beside its own 24 bytes.
 #[derive(Debug, Drop)]
 pub struct Text {
-    inner: String,
+    spelling: Spelling,
 }
 
 impl Model for Text {
-    ghost use Rattle.std.specs.Prelude.{List, ℕ, string_bytes};
+    ghost use Rattle.std.specs.Prelude.{List, ℕ};
     ghost use Rattle.std.specs.Coded.{coded_list, coded_ℕ};
 
     ghost Value = { List ℕ };
 
     ghost coded = { coded_list coded_ℕ };
 
-    ghost view = { λ t. string_bytes t.inner };
+    ghost use Rattle.ap_syntax.specs.Spellings.{spelled_bytes};
+
+    ghost view = { λ t. spelled_bytes t.spelling };
 }
 
 impl Text {
@@ -27,16 +42,21 @@ impl Text {
     pub fn new(alloc: Global, text: &str) -> Result<Text, AllocError>
         ensures { IfOk result (λ t. t ≡ text.now) }
     {
-        Ok(Text {
-            inner: String::from_str(alloc, text)?,
-        })
+        let spelling = match ArrayString::from(text) {
+            Ok(short) => Spelling::Short(short),
+            Err(_) => Spelling::Long(Boxed::new(alloc, String::from_str(alloc, text)?)?),
+        };
+        Ok(Text { spelling })
     }
 
     /// Its characters.
     pub fn as_str(&self) -> &str
         ensures { result.now ≡ self.now }
     {
-        self.inner.as_str()
+        match &self.spelling {
+            Spelling::Short(short) => short.as_str(),
+            Spelling::Long(long) => long.get().as_str(),
+        }
     }
 
     /// An equal text.

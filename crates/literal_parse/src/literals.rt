@@ -109,8 +109,8 @@ pub fn read_literal(alloc: Global, tokens: &mut Cursor<'_>) -> Result<Literal, S
     let left = read_term(alloc, tokens)?;
     if let Some(rel) = relation(tokens) {
         let right = read_term(alloc, tokens)?;
-        let left = Boxed::new(alloc, left.into_term())?;
-        let right = Boxed::new(alloc, right.into_term())?;
+        let left = left.boxed(alloc)?;
+        let right = right.boxed(alloc)?;
         return Ok(Literal::Compare(left, rel, right));
     }
     let bare = left.into_atom()?;

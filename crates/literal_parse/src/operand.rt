@@ -1,9 +1,11 @@
 // A term with the knowledge whether it may be an atom.
-ghost use Rattle.std.specs.Prelude.{◌≡◌};
+ghost use Rattle.std.specs.Prelude.{◌≡◌, IfOk};
 ghost use Rattle.literal_parse.specs.Operands.{BareOr, term_of, tree_of};
 
 use crate::error::Stop;
 use ap_syntax::{Atom, Term};
+use sqlite_items::Boxed;
+use std::alloc::{AllocError, Global};
 
 /// A term that was read.
 #[derive(Debug, Drop)]
@@ -15,14 +17,21 @@ pub enum Operand {
 }
 
 impl Operand {
-    /// The term.
-    pub fn into_term(self) -> Term
-        ensures { result ≡ tree_of self }
+    /// The term. It fails for want of memory alone.
+    pub fn into_term(self, alloc: Global) -> Result<Term, AllocError>
+        ensures { IfOk result (λ term. term ≡ tree_of self) }
     {
         match self {
-            Operand::Bare(atom) => term_of(atom),
-            Operand::Other(term) => term,
+            Operand::Bare(atom) => term_of(alloc, atom),
+            Operand::Other(term) => Ok(term),
         }
+    }
+
+    /// The term, boxed. It fails for want of memory alone.
+    pub fn boxed(self, alloc: Global) -> Result<Boxed<Term>, AllocError>
+        ensures { IfOk result (λ term. term ≡ tree_of self) }
+    {
+        Boxed::new(alloc, self.into_term(alloc)?)
     }
 
     /// The atom, where it may be one. `Syntax` comes where it is any other term; no other error comes.
@@ -37,13 +46,13 @@ impl Operand {
 }
 
 // An atom as a term.
-fn term_of(atom: Atom) -> Term
-    ensures { result ≡ term_of atom }
+fn term_of(alloc: Global, atom: Atom) -> Result<Term, AllocError>
+    ensures { IfOk result (λ term. term ≡ term_of atom) }
 {
     let Atom { name, terms } = atom;
     if terms.is_empty() {
-        Term::Const(name)
+        Ok(Term::Const(name))
     } else {
-        Term::Fun(name, terms)
+        Ok(Term::Fun(name, Boxed::new(alloc, terms)?))
     }
 }

@@ -60,8 +60,8 @@ pub fn read_term(alloc: Global, tokens: &mut Cursor<'_>) -> Result<Operand, Stop
         return Ok(low);
     }
     let high = read_sum(alloc, tokens)?;
-    let left = Boxed::new(alloc, low.into_term())?;
-    let right = Boxed::new(alloc, high.into_term())?;
+    let left = low.boxed(alloc)?;
+    let right = high.boxed(alloc)?;
     Ok(Operand::Other(Term::Range(left, right)))
 }
 
@@ -76,8 +76,8 @@ pub fn read_sum(alloc: Global, tokens: &mut Cursor<'_>) -> Result<Operand, Stop>
     let mut sum = read_product(alloc, tokens)?;
     'signs: while let Some(op) = sum_sign(tokens) {
         let next = read_product(alloc, tokens)?;
-        let left = Boxed::new(alloc, sum.into_term())?;
-        let right = Boxed::new(alloc, next.into_term())?;
+        let left = sum.boxed(alloc)?;
+        let right = next.boxed(alloc)?;
         sum = Operand::Other(Term::Sum(left, op, right));
     }
     Ok(sum)
@@ -94,8 +94,8 @@ pub fn read_product(alloc: Global, tokens: &mut Cursor<'_>) -> Result<Operand, S
     let mut product = read_unary(alloc, tokens)?;
     'signs: while let Some(op) = product_sign(tokens) {
         let next = read_unary(alloc, tokens)?;
-        let left = Boxed::new(alloc, product.into_term())?;
-        let right = Boxed::new(alloc, next.into_term())?;
+        let left = product.boxed(alloc)?;
+        let right = next.boxed(alloc)?;
         product = Operand::Other(Term::Product(left, op, right));
     }
     Ok(product)
@@ -113,7 +113,7 @@ pub fn read_unary(alloc: Global, tokens: &mut Cursor<'_>) -> Result<Operand, Sto
         return read_primary(alloc, tokens);
     }
     let term = read_primary(alloc, tokens)?;
-    let negated = Boxed::new(alloc, term.into_term())?;
+    let negated = term.boxed(alloc)?;
     Ok(Operand::Other(Term::Minus(negated)))
 }
 
@@ -149,10 +149,11 @@ fn read_group(alloc: Global, tokens: &mut Cursor<'_>) -> Result<Term, Stop>
     }
     let first = read_term(alloc, tokens)?;
     if tokens.eat(Terminal::Close) {
-        return Ok(first.into_term());
+        return Ok(first.into_term(alloc)?);
     }
     tokens.expect(Terminal::Comma)?;
-    read_tuple(alloc, tokens, first.into_term())
+    let first = first.into_term(alloc)?;
+    read_tuple(alloc, tokens, first)
 }
 
 /// The tuple whose first member and its comma were read: what stands behind them, up to the `)`. `first` is that member.
@@ -202,10 +203,10 @@ pub fn read_terms(
     ensures shorter { length tokens.new ≤ length tokens.old }
 {
     let first = read_term(alloc, tokens)?;
-    terms.push(first.into_term())?;
+    terms.push(first.into_term(alloc)?)?;
     'commas: while tokens.eat(Terminal::Comma) {
         let next = read_term(alloc, tokens)?;
-        terms.push(next.into_term())?;
+        terms.push(next.into_term(alloc)?)?;
     }
     Ok(fitted(terms))
 }

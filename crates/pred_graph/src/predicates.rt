@@ -111,7 +111,7 @@ fn push_item(alloc: Global, preds: &mut Items<Pred>, item: &BodyItem) -> Result<
             push_literal(alloc, preds, literal.get())?;
             push_literals(alloc, preds, condition.as_slice())
         }
-        BodyItem::Agg { elements, .. } => push_tuples(alloc, preds, elements.as_slice()),
+        BodyItem::Agg { elements, .. } => push_tuples(alloc, preds, elements.get().as_slice()),
     }
 }
 
@@ -142,7 +142,7 @@ fn push_aggregate(alloc: Global, preds: &mut Items<Pred>, item: &BodyItem) -> Re
     match item {
         BodyItem::Plain(_) => Ok(()),
         BodyItem::All { .. } => Ok(()),
-        BodyItem::Agg { elements, .. } => push_tuples(alloc, preds, elements.as_slice()),
+        BodyItem::Agg { elements, .. } => push_tuples(alloc, preds, elements.get().as_slice()),
     }
 }
 
@@ -195,7 +195,7 @@ pub fn choice_elements(head: &HeadForm) -> &[ChoiceElement]
 {
     match head {
         HeadForm::One(_) => &[],
-        HeadForm::Choice { elements, .. } => elements.as_slice(),
+        HeadForm::Choice { elements, .. } => elements.get().as_slice(),
         HeadForm::Nothing => &[],
     }
 }
@@ -218,7 +218,7 @@ fn push_heads(alloc: Global, preds: &mut Items<Pred>, head: &HeadForm) -> Result
 {
     match head {
         HeadForm::One(atom) => push_atom(alloc, preds, atom),
-        HeadForm::Choice { elements, .. } => push_elements(alloc, preds, elements.as_slice()),
+        HeadForm::Choice { elements, .. } => push_elements(alloc, preds, elements.get().as_slice()),
         HeadForm::Nothing => Ok(()),
     }
 }
@@ -240,7 +240,7 @@ pub fn choice_preds(alloc: Global, head: &HeadForm) -> Result<Items<Pred>, Alloc
     let mut preds = Items::new(alloc);
     match head {
         HeadForm::One(_) => (),
-        HeadForm::Choice { elements, .. } => push_elements(alloc, &mut preds, elements.as_slice())?,
+        HeadForm::Choice { elements, .. } => push_elements(alloc, &mut preds, elements.get().as_slice())?,
         HeadForm::Nothing => (),
     }
     Ok(preds)

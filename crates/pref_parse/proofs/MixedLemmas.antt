@@ -32,7 +32,7 @@ use Rattle.pref_parse.specs.declared.mixed.Mixed.{Mixed}
 use Rattle.pref_parse.specs.declared.mixed.Mixed.TheVariants.{Either, Formed, Other}
 use Rattle.pref_parse.specs.Formulas.{IsFormulaRest, IsUnit, unit}
 use Rattle.pref_parse.specs.Operators.{Operates}
-use Rattle.pref_parse.specs.Mixed.{IsInner, IsInnerRest, IsMixed, IsMixedRest, TermOr, class_of, either, inner, simple, value_of}
+use Rattle.pref_parse.specs.Mixed.{IsInner, IsInnerRest, IsMixed, IsMixedRest, OperandOr, class_of, either, inner, simple, value_of}
 use Rattle.pref_parse.proofs.FormulaLemmas.{alone, negated_made}
 use Rattle.pref_parse.proofs.RestLemmas.{more_takes, more_fails, more_some, term_goes, either_operated, rest_some, formula_goes, either_joined}
 use Rattle.pref_parse.proofs.Simple.{one_token, never_fails, otherwise, simple_takes, simple_made}
@@ -78,12 +78,12 @@ inner_closed (Either a) n = Reads.ok {vs = token n.token ∷ []} (λ first other
 inner_closed (Formed f) n = Reads.ok {vs = token n.token ∷ []} (λ first other. refl) (next_takes n)
 inner_closed (Other y) n = Reads.ok {vs = token n.token ∷ []} (λ first other. refl) (Takes.left (next_starts n) (next_takes n))
 
-pub inner_formed : {xs ys : List Lexeme} (x : Mixed) (e : Stop) {R : Result Mixed Stop} → (ys ≡ xs) × Lacks t.Close xs → TermOr x (Err e) → IsErrAnd R (λ d. d ≡ e) → Reads (inner_behind (class_of x)) (IsInnerRest x) xs ys R
+pub inner_formed : {xs ys : List Lexeme} (x : Mixed) (e : Stop) {R : Result Mixed Stop} → (ys ≡ xs) × Lacks t.Close xs → OperandOr x (Err e) → IsErrAnd R (λ d. d ≡ e) → Reads (inner_behind (class_of x)) (IsInnerRest x) xs ys R
 inner_formed (Either a) e h o i = absurd (cc)
 inner_formed {xs = xs} (Formed f) e h o i = let k : e ≡ _ = cc in stopped_syntax k i (rw h.0 (fails_tok t.Close xs h.1))
 inner_formed (Other y) e h o i = absurd (cc)
 
-pub inner_comma_fails : {xs ys zs : List Lexeme} (x : Mixed) (y : Term) → (ys ≡ xs) × Lacks t.Close xs → TermOr x (Ok y) → Fails factored tables (Tok t.Comma) ys zs → Fails factored tables (inner_behind (class_of x)) xs zs
+pub inner_comma_fails : {xs ys zs : List Lexeme} (x : Mixed) (y : Operand) → (ys ≡ xs) × Lacks t.Close xs → OperandOr x (Ok y) → Fails factored tables (Tok t.Comma) ys zs → Fails factored tables (inner_behind (class_of x)) xs zs
 inner_comma_fails (Either a) y h o f = Fails.right h.1 (Fails.first (fails_from h.0 f))
 inner_comma_fails (Formed g) y h o f = absurd (cc)
 inner_comma_fails (Other z) y h o f = Fails.right h.1 (Fails.first (fails_from h.0 f))
@@ -92,21 +92,21 @@ module _ {U : Type 0} {u : U} {xs ys zs : List Lexeme} (h : (ys ≡ xs) × Lacks
   comma : Takes factored tables (Tok t.Comma) xs zs (token (taken c).makes.0 ∷ [])
   comma = let p = taken c in from h.0 (giving p.makes.1 p.takes)
 
-  pub inner_tuple_fails : {end : List Lexeme} (x : Mixed) (y : Term) → TermOr x (Ok y) → Fails factored tables behind_comma zs end → Fails factored tables (inner_behind (class_of x)) xs end
+  pub inner_tuple_fails : {end : List Lexeme} (x : Mixed) (y : Operand) → OperandOr x (Ok y) → Fails factored tables behind_comma zs end → Fails factored tables (inner_behind (class_of x)) xs end
   inner_tuple_fails (Either a) y o f = Fails.right h.1 (Fails.second comma f)
   inner_tuple_fails (Formed g) y o f = absurd (cc)
   inner_tuple_fails (Other z) y o f = Fails.right h.1 (Fails.second comma f)
 
-  tuple_made : (x : Mixed) (y w : Term) (sign : Lexeme) (vs : List Value) → TermOr x (Ok y) → IsTuple y w vs → IsInnerRest x (Other w) (token sign ∷ vs)
-  tuple_made x y w sign [] o i = absurd (i.some refl)
-  tuple_made (Either a) y w sign (v ∷ vs) o i = λ first other. let e : y ≡ term_of a = cc in rw (i.is, e) refl
-  tuple_made (Formed g) y w sign (v ∷ vs) o i = absurd (cc)
-  tuple_made (Other z) y w sign (v ∷ vs) o i = λ first other. let e : y ≡ z = cc in rw (i.is, e) refl
+  tuple_made : (x : Mixed) (p : Operand) (y w : Term) (sign : Lexeme) (vs : List Value) → OperandOr x (Ok p) → y ≡ tree_of p → IsTuple y w vs → IsInnerRest x (Other w) (token sign ∷ vs)
+  tuple_made x p y w sign [] o k i = absurd (i.some refl)
+  tuple_made (Either a) p y w sign (v ∷ vs) o k i = λ first other. let e : p ≡ Bare a = cc in rw (i.is, k, e) refl
+  tuple_made (Formed g) p y w sign (v ∷ vs) o k i = absurd (cc)
+  tuple_made (Other z) p y w sign (v ∷ vs) o k i = λ first other. let e : p ≡ operands.Other z = cc in rw (i.is, k, e) refl
 
-  pub inner_tuple : {end : List Lexeme} {w : Term} (x : Mixed) (y : Term) → TermOr x (Ok y) → Reads behind_comma (IsTuple y) zs end (Ok w) → Reads (inner_behind (class_of x)) (IsInnerRest x) xs end (Ok (Other w))
-  inner_tuple {w = w} (Either a) y o r = let q = taken r in Reads.ok (tuple_made (Either a) y w (taken c).makes.0 q.values o q.makes) (Takes.right h.1 (Takes.seq comma q.takes))
-  inner_tuple (Formed g) y o r = absurd (cc)
-  inner_tuple {w = w} (Other z) y o r = let q = taken r in Reads.ok (tuple_made (Other z) y w (taken c).makes.0 q.values o q.makes) (Takes.right h.1 (Takes.seq comma q.takes))
+  pub inner_tuple : {end : List Lexeme} {y w : Term} (x : Mixed) (p : Operand) → OperandOr x (Ok p) → y ≡ tree_of p → Reads behind_comma (IsTuple y) zs end (Ok w) → Reads (inner_behind (class_of x)) (IsInnerRest x) xs end (Ok (Other w))
+  inner_tuple {y = y} {w = w} (Either a) p o k r = let q = taken r in Reads.ok (tuple_made (Either a) p y w (taken c).makes.0 q.values o k q.makes) (Takes.right h.1 (Takes.seq comma q.takes))
+  inner_tuple (Formed g) p o k r = absurd (cc)
+  inner_tuple {y = y} {w = w} (Other z) p o k r = let q = taken r in Reads.ok (tuple_made (Other z) p y w (taken c).makes.0 q.values o k q.makes) (Takes.right h.1 (Takes.seq comma q.takes))
 
 -- ---- the rest behind the first primary term or the first member
 

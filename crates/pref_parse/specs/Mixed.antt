@@ -3,7 +3,6 @@ use Rattle.std.specs.Prelude.{◌≡◌, List, ◌∷◌, None, Result, Ok, Err}
 use Rattle.grammar.specs.Form.{◌∣◌}
 use Rattle.grammar.specs.Form.Form.{Tok, Call, Then}
 use Rattle.ap_syntax.specs.declared.terms.Atom.{Atom}
-use Rattle.ap_syntax.specs.declared.terms.Term.{Term}
 use Rattle.ap_grammar.specs.declared.terminals.Terminal.TheVariants as t
 use Rattle.ap_grammar.specs.Lexemes.{Lexeme}
 use Rattle.ap_grammar.specs.Values.{Value, Class}
@@ -12,6 +11,8 @@ use Rattle.literal_parse.specs.declared.error.Stop.{Stop}
 use Rattle.literal_parse.specs.declared.error.Stop.TheVariants.{Syntax}
 use Rattle.literal_parse.specs.Literals.{Brings}
 use Rattle.literal_parse.specs.Operands.{term_of}
+use Rattle.literal_parse.specs.declared.operand.Operand.{Operand}
+use Rattle.literal_parse.specs.declared.operand.Operand.TheVariants as Operands
 use Rattle.pref_parse.specs.declared.mixed.Mixed.{Mixed}
 use Rattle.pref_parse.specs.declared.mixed.Mixed.TheVariants.{Either, Formed, Other}
 
@@ -31,11 +32,11 @@ class_of (Other x) = Class.Other
 abbrev pub IsMixed : List Lexeme → Mixed → List Value → Type 0
 IsMixed old x vs = Brings old (λ first. value_of first x) vs
 
--- the term of what may be one, and else a fault
-abbrev pub TermOr : Mixed → Result Term Stop → Type 0
-TermOr (Either a) r = r ≡ Ok (term_of a)
-TermOr (Formed f) r = r ≡ Err Syntax
-TermOr (Other x) r = r ≡ Ok x
+-- what was read of a term, where it may be one, and else a fault
+abbrev pub OperandOr : Mixed → Result Operand Stop → Type 0
+OperandOr (Either a) r = r ≡ Ok (Operands.Bare a)
+OperandOr (Formed f) r = r ≡ Err Syntax
+OperandOr (Other x) r = r ≡ Ok (Operands.Other x)
 
 -- behind the first primary term or the first member
 abbrev pub IsMixedRest : Mixed → Mixed → List Value → Type 0

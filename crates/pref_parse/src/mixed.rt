@@ -8,7 +8,7 @@ ghost use Rattle.ap_grammar.specs.Factored.{Part as parts, inner_behind, mixed_b
 ghost use Rattle.ap_grammar.specs.Tables.{tables};
 ghost use Rattle.ap_grammar.specs.Values.Class.{Either};
 ghost use Rattle.literal_parse.specs.Reads.{Reads, Tells};
-ghost use Rattle.pref_parse.specs.Mixed.{IsInner, IsInnerRest, IsMixed, IsMixedRest, TermOr, class_of, either, inner, simple};
+ghost use Rattle.pref_parse.specs.Mixed.{IsInner, IsInnerRest, IsMixed, IsMixedRest, OperandOr, class_of, either, inner, simple};
 
 use crate::formulas::{begins_connective, read_formula_rest, read_unit};
 use crate::operators::{begins_operator, read_term_rest};
@@ -30,14 +30,14 @@ pub enum Mixed {
 }
 
 impl Mixed {
-    // The term, where it may be one.
-    fn into_term(self) -> Result<Term, Stop>
-        ensures { TermOr self result }
+    // What was read of a term, where it may be one.
+    fn into_operand(self) -> Result<Operand, Stop>
+        ensures { OperandOr self result }
     {
         match self {
-            Mixed::Either(atom) => Ok(Operand::Bare(atom).into_term()),
+            Mixed::Either(atom) => Ok(Operand::Bare(atom)),
             Mixed::Formed(_) => Err(Stop::Syntax),
-            Mixed::Other(term) => Ok(term),
+            Mixed::Other(term) => Ok(Operand::Other(term)),
         }
     }
 }
@@ -86,12 +86,12 @@ fn read_front(alloc: Global, tokens: &mut Cursor<'_>) -> Result<Mixed, Stop>
     }
     if tokens.eat(Terminal::Minus) {
         let term = read_primary(alloc, tokens)?;
-        let negated = Boxed::new(alloc, term.into_term())?;
+        let negated = term.boxed(alloc)?;
         return Ok(Mixed::Other(Term::Minus(negated)));
     }
     if begins_simple(tokens) {
         let term = read_primary(alloc, tokens)?;
-        return Ok(Mixed::Other(term.into_term()));
+        return Ok(Mixed::Other(term.into_term(alloc)?));
     }
     if tokens.eat(Terminal::Open) {
         return read_inner(alloc, tokens);
@@ -122,8 +122,9 @@ fn read_inner_rest(alloc: Global, tokens: &mut Cursor<'_>, inner: Mixed) -> Resu
     if tokens.eat(Terminal::Close) {
         return Ok(inner);
     }
-    let first = inner.into_term()?;
+    let operand = inner.into_operand()?;
     tokens.expect(Terminal::Comma)?;
+    let first = operand.into_term(alloc)?;
     let tuple = read_tuple(alloc, tokens, first)?;
     Ok(Mixed::Other(tuple))
 }
@@ -152,7 +153,8 @@ fn read_either_rest(alloc: Global, tokens: &mut Cursor<'_>, atom: Atom) -> Resul
     ensures shorter { length tokens.new ≤ length tokens.old }
 {
     if begins_operator(tokens) {
-        let term = read_term_rest(alloc, tokens, Operand::Bare(atom).into_term())?;
+        let first = Operand::Bare(atom).into_term(alloc)?;
+        let term = read_term_rest(alloc, tokens, first)?;
         return Ok(Mixed::Other(term));
     }
     if begins_connective(tokens) {

@@ -51,7 +51,7 @@ fn read_factors(alloc: Global, tokens: &mut Cursor<'_>, first: Term) -> Result<T
     'signs: while let Some(op) = product_sign(tokens) {
         let next = read_unary(alloc, tokens)?;
         let left = Boxed::new(alloc, product)?;
-        let right = Boxed::new(alloc, next.into_term())?;
+        let right = next.boxed(alloc)?;
         product = Term::Product(left, op, right);
     }
     Ok(product)
@@ -66,7 +66,7 @@ fn read_summands(alloc: Global, tokens: &mut Cursor<'_>, first: Term) -> Result<
     'signs: while let Some(op) = sum_sign(tokens) {
         let next = read_product(alloc, tokens)?;
         let left = Boxed::new(alloc, sum)?;
-        let right = Boxed::new(alloc, next.into_term())?;
+        let right = next.boxed(alloc)?;
         sum = Term::Sum(left, op, right);
     }
     Ok(sum)
@@ -82,7 +82,7 @@ fn read_range(alloc: Global, tokens: &mut Cursor<'_>, low: Term) -> Result<Term,
     }
     let high = read_sum(alloc, tokens)?;
     let left = Boxed::new(alloc, low)?;
-    let right = Boxed::new(alloc, high.into_term())?;
+    let right = high.boxed(alloc)?;
     Ok(Term::Range(left, right))
 }
 

@@ -63,7 +63,8 @@ fn read_optional_weights(alloc: Global, tokens: &mut Cursor<'_>, atom: Atom) -> 
     ensures shorter { length tokens.new ≤ length tokens.old }
 {
     if begins_weights(tokens) {
-        read_weighed(alloc, tokens, Operand::Bare(atom).into_term())
+        let first = Operand::Bare(atom).into_term(alloc)?;
+        read_weighed(alloc, tokens, first)
     } else {
         Ok(unweighed(alloc, Target::For(Formula::Atom(atom))))
     }
@@ -106,7 +107,7 @@ fn read_weights(alloc: Global, tokens: &mut Cursor<'_>, first: Term) -> Result<I
     weights.push(first)?;
     'commas: while tokens.eat(Terminal::Comma) {
         let next = read_term(alloc, tokens)?;
-        weights.push(next.into_term())?;
+        weights.push(next.into_term(alloc)?)?;
     }
     Ok(fitted(weights))
 }

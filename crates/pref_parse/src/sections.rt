@@ -13,9 +13,8 @@ ghost use Rattle.ap_parse.specs.Sections.{IsMore, IsProgram, IsSection};
 use crate::statements::{begins_any, read_any};
 use ap_grammar::Terminal;
 use ap_parse::read_opening;
-use ap_syntax::{Statement, fitted};
+use ap_syntax::{Statement, Statements};
 use literal_parse::{Cursor, Stop};
-use sqlite_items::Items;
 use std::alloc::Global;
 
 // The statements up to the first token that begins none, behind those that were read before.
@@ -59,7 +58,7 @@ pub fn read_text(
     alloc: Global,
     tokens: &mut Cursor<'_>,
     of_type: bool,
-) -> Result<Items<Statement>, Stop>
+) -> Result<Statements, Stop>
     ensures read { Reads (call (names.Text true of_type)) IsProgram tokens.old tokens.new result }
     ensures shorter { length tokens.new ≤ length tokens.old }
 {
@@ -67,5 +66,5 @@ pub fn read_text(
     'sections: while tokens.sees(Terminal::Program) {
         statements = read_section(alloc, tokens, statements)?;
     }
-    Ok(fitted(statements))
+    Ok(Statements::fitted(statements))
 }

@@ -5,9 +5,8 @@ ghost use Rattle.small_front.specs.Stages.{ReadingCause, refusal_of};
 
 use crate::fault::FrontFault;
 use ap_lexemes::ParseFault;
-use ap_syntax::Statement;
+use ap_syntax::Statements;
 use pref_parse::parse_bytes;
-use sqlite_items::Items;
 use std::alloc::{AllocError, Global};
 
 /// The refusal of a file with this fault.
@@ -22,9 +21,9 @@ fn refusal(file: u32, fault: ParseFault) -> FrontFault
 
 /// Some statements, and more behind them. Where there are none yet, what is more is taken as it is.
 fn joined(
-    mut statements: Items<Statement>,
-    more: Items<Statement>,
-) -> Result<Items<Statement>, AllocError>
+    mut statements: Statements,
+    more: Statements,
+) -> Result<Statements, AllocError>
     ensures { IfOk result (λ all. all ≡ statements ++ more) }
 {
     if statements.is_empty() {
@@ -35,13 +34,13 @@ fn joined(
 }
 
 /// The statements of all files, in order. `Reading` comes exactly for the first file that is not the text of a program.
-pub fn read_files(alloc: Global, files: &[Vec<u8>]) -> Result<Items<Statement>, FrontFault>
+pub fn read_files(alloc: Global, files: &[Vec<u8>]) -> Result<Statements, FrontFault>
     requires sizes { All (λ file. length file.items ≤ 16777216) files.now }
     requires few { length files.now < 4294967295 }
     ensures read { IfOk result (AreRead 1 (bytes_of files.now)) }
     ensures fault { IfErr result (ReadingCause (bytes_of files.now)) }
 {
-    let mut statements = Items::new(alloc);
+    let mut statements = Statements::new(alloc);
     let mut number = 0;
     for file in files {
         number += 1;

@@ -5,7 +5,7 @@ ghost use Rattle.small_front.specs.Forms.{small_of, small_statement_of};
 
 use crate::preferences::{is_small_preference, small_preference};
 use crate::rules::{is_small_rule, small_rule};
-use ap_syntax::{Statement, small};
+use ap_syntax::{Statement, Statements, small};
 use sqlite_items::Items;
 use std::alloc::{AllocError, Global};
 
@@ -54,7 +54,7 @@ fn count_small(statements: &[Statement]) -> usize
 /// The small program of all statements. It takes their names and frees the rest as it goes.
 pub fn small_program(
     alloc: Global,
-    mut statements: Items<Statement>,
+    mut statements: Statements,
 ) -> Result<small::Program, AllocError>
     ensures { IfOk result (λ program. program ≡ small_of statements) }
 {

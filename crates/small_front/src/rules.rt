@@ -137,7 +137,7 @@ fn is_small_head(head: &HeadForm) -> bool
             left: None,
             elements,
             right: None,
-        } => is_small_choice(elements.as_slice()),
+        } => is_small_choice(elements.get().as_slice()),
         HeadForm::Choice { .. } => false,
         HeadForm::Nothing => true,
     }
@@ -152,7 +152,7 @@ fn head_of(alloc: Global, head: HeadForm) -> Result<Option<small::HeadForm>, All
             left: None,
             elements,
             right: None,
-        } => Ok(choice_of(alloc, elements)?.map(small::HeadForm::Choice)),
+        } => Ok(choice_of(alloc, elements.into_inner())?.map(small::HeadForm::Choice)),
         HeadForm::Choice { .. } => Ok(None),
         HeadForm::Nothing => Ok(Some(small::HeadForm::Nothing)),
     }

@@ -6,13 +6,13 @@ pub returns-in_err-aggregate-clause-read : goal.returns-in_err-aggregate-clause-
 returns-in_err-aggregate-clause-read c = exit c.in_err-aggregate.ensures.read c.from_residual.ensures.1 (not_related_fails c.args.left c.in-Some.ensures)
 
 pub returns-in-Some-clause-read : goal.returns-in-Some-clause-read
-returns-in-Some-clause-read c = rw c.in_ok-new.ensures (not_related c.args.left c.in-Some.ensures c.into_term.ensures c.in_ok-aggregate.ensures.read)
+returns-in-Some-clause-read c = rw c.in_ok-new.ensures (not_related c.args.left c.in-Some.ensures c.in_ok-term.ensures c.in_ok-aggregate.ensures.read)
 
 pub returns-in_err-aggregate-2-clause-read : goal.returns-in_err-aggregate-2-clause-read
 returns-in_err-aggregate-2-clause-read c = exit c.in_err-aggregate-2.ensures.read c.from_residual-in_err-aggregate-2.ensures.1 (not_aggregate_fails c.args.left c.in_default.ensures c.if-begins_aggregate.ensures)
 
 pub returns-then-begins_aggregate-clause-read : goal.returns-then-begins_aggregate-clause-read
-returns-then-begins_aggregate-clause-read c = rw c.in_ok-new-2.ensures (not_aggregate c.args.left c.in_default.ensures c.if-begins_aggregate.ensures c.into_term-then-begins_aggregate.ensures c.in_ok-aggregate-2.ensures.read)
+returns-then-begins_aggregate-clause-read c = rw c.in_ok-new-2.ensures (not_aggregate c.args.left c.in_default.ensures c.if-begins_aggregate.ensures c.in_ok-term-2.ensures c.in_ok-aggregate-2.ensures.read)
 
 pub returns-in_err-bare-clause-read : goal.returns-in_err-bare-clause-read
 returns-in_err-bare-clause-read c = not_other c.args.left c.in_default.ensures _ c.if-begins_aggregate.ensures c.in_err-bare.ensures c.from_residual-in_err-bare.ensures.1

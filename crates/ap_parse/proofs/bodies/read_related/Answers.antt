@@ -12,4 +12,4 @@ pub returns-in_err-right-clause-read : goal.returns-in_err-right-clause-read
 returns-in_err-right-clause-read c = exit c.in_err-right.ensures.read c.from_residual-in_err-right.ensures.1 (related_term_fails c.args.left c.args.rel c.if-begins_aggregate.ensures)
 
 pub returns-clause-read : goal.returns-clause-read
-returns-clause-read c = rw (c.in_ok-left.ensures, c.in_ok-right-2.ensures, c.into_term.ensures) (related_term c.args.left c.args.rel c.if-begins_aggregate.ensures c.in_ok-right.ensures.read)
+returns-clause-read c = rw (c.in_ok-left.ensures, c.in_ok-right-2.ensures) (related_term c.args.left c.args.rel c.if-begins_aggregate.ensures c.in_ok-right.ensures.read)

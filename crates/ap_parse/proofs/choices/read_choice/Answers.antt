@@ -10,4 +10,4 @@ pub returns-in_err-right-clause-read : goal.returns-in_err-right-clause-read
 returns-in_err-right-clause-read c = exit c.in_err-right.ensures.read c.from_residual-in_err-right.ensures.1 (right_fails c.in_ok-elements.ensures.read)
 
 pub returns-clause-read : goal.returns-clause-read
-returns-clause-read c = choice_read c.in_ok-elements.ensures.read c.args.left c.in_ok-right.ensures.read
+returns-clause-read c = rw c.in_ok-elements-2.ensures (choice_read c.in_ok-elements.ensures.read c.args.left c.in_ok-right.ensures.read)

@@ -15,7 +15,7 @@ pub returns-in_err-right-clause-read : goal.returns-in_err-right-clause-read
 returns-in_err-right-clause-read c = exit c.in_err-right.ensures.read c.from_residual-in_err-right.ensures.1 (compared_fails c.if-eat.ensures c.in_ok-left.ensures.read c.in-Some.ensures)
 
 pub returns-in-Some-clause-read : goal.returns-in-Some-clause-read
-returns-in-Some-clause-read c = rw (c.in_ok-left-2.ensures, c.in_ok-right-2.ensures, c.into_term.ensures, c.into_term-in-Some.ensures) (compared_read c.if-eat.ensures c.in_ok-left.ensures.read c.in-Some.ensures c.in_ok-right.ensures.read)
+returns-in-Some-clause-read c = rw (c.in_ok-left-2.ensures, c.in_ok-right-2.ensures) (compared_read c.if-eat.ensures c.in_ok-left.ensures.read c.in-Some.ensures c.in_ok-right.ensures.read)
 
 pub returns-in_err-bare-clause-read : goal.returns-in_err-bare-clause-read
 returns-in_err-bare-clause-read c = not_bare c.if-eat.ensures c.in_ok-left.ensures.read _ c.in_default.ensures c.in_err-bare.ensures c.from_residual-in_err-bare.ensures.1

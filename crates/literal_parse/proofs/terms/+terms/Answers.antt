@@ -18,7 +18,7 @@ pub read_term-returns-in_err-high-clause-read : goal.read_term-returns-in_err-hi
 read_term-returns-in_err-high-clause-read t c = exit c.in_err-high.ensures.read c.from_residual-in_err-high.ensures.1 (term_end_fails c.in_ok-low.ensures.read c.if-not-eat.ensures)
 
 pub read_term-returns-clause-read : goal.read_term-returns-clause-read
-read_term-returns-clause-read t c = rw (c.in_ok-left.ensures, c.in_ok-right.ensures, c.into_term.ensures, c.into_term-2.ensures) (term_range c.in_ok-low.ensures.read c.if-not-eat.ensures c.in_ok-high.ensures.read)
+read_term-returns-clause-read t c = rw (c.in_ok-left.ensures, c.in_ok-right.ensures) (term_range c.in_ok-low.ensures.read c.if-not-eat.ensures c.in_ok-high.ensures.read)
 
 -- ---- sums
 
@@ -29,7 +29,7 @@ pub read_sum-returns-in_err-next-clause-read : goal.read_sum-returns-in_err-next
 read_sum-returns-in_err-next-clause-read t c = exit c.in_err-next.ensures.read c.from_residual-in_err-next.ensures.1 (sum_fails c.in-Some.op c.in_ok-sum.ensures.read c.signs.invariant.so_far c.in-Some.ensures)
 
 pub read_sum-signs-preserved : goal.read_sum-signs-preserved
-read_sum-signs-preserved t c = record { shorter = grind (arith, common_steps); so_far = rw (c.in_ok-left.ensures, c.in_ok-right.ensures, c.into_term.ensures, c.into_term-in-Some.ensures) (sum_more c.in-Some.op c.signs.invariant.so_far c.in-Some.ensures c.in_ok-next.ensures.read) }
+read_sum-signs-preserved t c = record { shorter = grind (arith, common_steps); so_far = rw (c.in_ok-left.ensures, c.in_ok-right.ensures) (sum_more c.in-Some.op c.signs.invariant.so_far c.in-Some.ensures c.in_ok-next.ensures.read) }
 
 pub read_sum-returns-clause-read : goal.read_sum-returns-clause-read
 read_sum-returns-clause-read t c = sum_end c.in_ok-sum.ensures.read c.signs.invariant.so_far c.in_default.ensures
@@ -43,7 +43,7 @@ pub read_product-returns-in_err-next-clause-read : goal.read_product-returns-in_
 read_product-returns-in_err-next-clause-read t c = exit c.in_err-next.ensures.read c.from_residual-in_err-next.ensures.1 (product_fails c.in-Some.op c.in_ok-product.ensures.read c.signs.invariant.so_far c.in-Some.ensures)
 
 pub read_product-signs-preserved : goal.read_product-signs-preserved
-read_product-signs-preserved t c = record { shorter = grind (arith, common_steps); so_far = rw (c.in_ok-left.ensures, c.in_ok-right.ensures, c.into_term.ensures, c.into_term-in-Some.ensures) (product_more c.in-Some.op c.signs.invariant.so_far c.in-Some.ensures c.in_ok-next.ensures.read) }
+read_product-signs-preserved t c = record { shorter = grind (arith, common_steps); so_far = rw (c.in_ok-left.ensures, c.in_ok-right.ensures) (product_more c.in-Some.op c.signs.invariant.so_far c.in-Some.ensures c.in_ok-next.ensures.read) }
 
 pub read_product-returns-clause-read : goal.read_product-returns-clause-read
 read_product-returns-clause-read t c = product_end c.in_ok-product.ensures.read c.signs.invariant.so_far c.in_default.ensures
@@ -57,7 +57,7 @@ pub read_unary-returns-in_err-term-clause-read : goal.read_unary-returns-in_err-
 read_unary-returns-in_err-term-clause-read t c = exit c.in_err-term.ensures.read c.from_residual.ensures.1 (unary_fails c.if-not-eat.ensures)
 
 pub read_unary-returns-clause-read : goal.read_unary-returns-clause-read
-read_unary-returns-clause-read t c = rw (c.in_ok-negated.ensures, c.into_term.ensures) (unary_minus c.if-not-eat.ensures c.in_ok-term.ensures.read)
+read_unary-returns-clause-read t c = rw c.in_ok-negated.ensures (unary_minus c.if-not-eat.ensures c.in_ok-term.ensures.read)
 
 -- ---- primary terms
 
@@ -91,13 +91,13 @@ pub read_group-returns-in_err-first-clause-read : goal.read_group-returns-in_err
 read_group-returns-in_err-first-clause-read t c = exit c.in_err-first.ensures.read c.from_residual.ensures.1 (group_first_fails c.if-eat.ensures)
 
 pub read_group-returns-then-eat-2-clause-read : goal.read_group-returns-then-eat-2-clause-read
-read_group-returns-then-eat-2-clause-read t c = rw c.into_term.ensures (closed_read c.if-eat.ensures c.in_ok-first.ensures.read c.if-eat-2.ensures)
+read_group-returns-then-eat-2-clause-read t c = rw c.in_ok-into_term.ensures (closed_read c.if-eat.ensures c.in_ok-first.ensures.read c.if-eat-2.ensures)
 
 pub read_group-returns-in_err-expect-clause-read : goal.read_group-returns-in_err-expect-clause-read
 read_group-returns-in_err-expect-clause-read t c = exit c.in_err-expect.ensures.read c.from_residual-in_err-expect.ensures.1 (comma_fails c.if-eat.ensures c.in_ok-first.ensures.read c.if-eat-2.ensures)
 
 pub read_group-returns-clause-read : goal.read_group-returns-clause-read
-read_group-returns-clause-read t c = tuple_reads c.if-eat.ensures c.in_ok-first.ensures.read c.if-eat-2.ensures c.in_ok-expect.ensures.read c.into_term-2.ensures c.read_tuple.ensures.read
+read_group-returns-clause-read t c = tuple_reads c.if-eat.ensures c.in_ok-first.ensures.read c.if-eat-2.ensures c.in_ok-expect.ensures.read c.in_ok-first-2.ensures c.read_tuple.ensures.read
 
 -- ---- tuples
 
@@ -136,7 +136,7 @@ pub read_terms-returns-in_err-next-clause-read : goal.read_terms-returns-in_err-
 read_terms-returns-in_err-next-clause-read t c = exit c.in_err-next.ensures.read c.from_residual-in_err-next.ensures.1 (terms_fail c.in_ok-first.ensures.read c.commas.invariant.so_far c.commas-test.ensures)
 
 pub read_terms-commas-preserved : goal.read_terms-commas-preserved
-read_terms-commas-preserved t c = record { shorter = grind (arith, common_steps); so_far = rw (c.in_ok-push-2.ensures.items, c.into_term-in-commas.ensures) (terms_more c.commas.invariant.so_far c.commas-test.ensures c.in_ok-next.ensures.read) }
+read_terms-commas-preserved t c = record { shorter = grind (arith, common_steps); so_far = rw (c.in_ok-push-2.ensures.items, c.in_ok-into_term-2.ensures) (terms_more c.commas.invariant.so_far c.commas-test.ensures c.in_ok-next.ensures.read) }
 
 pub read_terms-returns-clause-read : goal.read_terms-returns-clause-read
-read_terms-returns-clause-read t c = rw c.fitted.ensures (terms_end c.in_ok-first.ensures.read c.commas.invariant.so_far c.args.terms.items (c.in_ok-push.ensures.items ∙ ap (λ x. c.args.terms.items ++ x ∷ []) c.into_term.ensures) c.commas-test.ensures)
+read_terms-returns-clause-read t c = rw c.fitted.ensures (terms_end c.in_ok-first.ensures.read c.commas.invariant.so_far c.args.terms.items (c.in_ok-push.ensures.items ∙ ap (λ x. c.args.terms.items ++ x ∷ []) c.in_ok-into_term.ensures) c.commas-test.ensures)

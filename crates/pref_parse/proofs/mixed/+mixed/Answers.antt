@@ -32,13 +32,13 @@ pub read_front-returns-in_err-term-clause-read : goal.read_front-returns-in_err-
 read_front-returns-in_err-term-clause-read t c = exit c.in_err-term.ensures.read c.from_residual-in_err-term.ensures.1 (front_minus_fails c.if-eat.ensures c.if-eat-2.ensures)
 
 pub read_front-returns-then-eat-2-clause-read : goal.read_front-returns-then-eat-2-clause-read
-read_front-returns-then-eat-2-clause-read t c = rw (c.in_ok-negated-2.ensures, c.into_term.ensures) (front_minus c.if-eat.ensures c.if-eat-2.ensures c.in_ok-term.ensures.read)
+read_front-returns-then-eat-2-clause-read t c = rw c.in_ok-negated-2.ensures (front_minus c.if-eat.ensures c.if-eat-2.ensures c.in_ok-term.ensures.read)
 
 pub read_front-returns-in_err-term-2-clause-read : goal.read_front-returns-in_err-term-2-clause-read
 read_front-returns-in_err-term-2-clause-read t c = exit c.in_err-term-2.ensures.read c.from_residual-in_err-term-2.ensures.1 (front_simple_fails c.if-begins_simple.ensures)
 
 pub read_front-returns-then-begins_simple-clause-read : goal.read_front-returns-then-begins_simple-clause-read
-read_front-returns-then-begins_simple-clause-read t c = rw c.into_term-then-begins_simple.ensures (front_simple (unsigned c.if-eat.ensures c.if-eat-2.ensures) c.if-begins_simple.ensures c.in_ok-term-2.ensures.read)
+read_front-returns-then-begins_simple-clause-read t c = rw c.in_ok-into_term.ensures (front_simple (unsigned c.if-eat.ensures c.if-eat-2.ensures) c.if-begins_simple.ensures c.in_ok-term-2.ensures.read)
 
 pub read_front-returns-then-eat-3-clause-read : goal.read_front-returns-then-eat-3-clause-read
 read_front-returns-then-eat-3-clause-read t c = front_inner (unsigned c.if-eat.ensures c.if-eat-2.ensures) c.if-begins_simple.ensures c.if-eat-3.ensures c.read_inner.ensures.read

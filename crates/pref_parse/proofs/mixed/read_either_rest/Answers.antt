@@ -7,7 +7,7 @@ pub returns-in_err-term-clause-read : goal.returns-in_err-term-clause-read
 returns-in_err-term-clause-read c = exit c.in_err-term.ensures.read c.from_residual.ensures.1 (either_term_fails c.if-begins_operator.ensures)
 
 pub returns-then-begins_operator-clause-read : goal.returns-then-begins_operator-clause-read
-returns-then-begins_operator-clause-read c = either_term c.args.atom c.if-begins_operator.ensures c.into_term.ensures c.in_ok-term.ensures.read
+returns-then-begins_operator-clause-read c = either_term c.args.atom c.if-begins_operator.ensures c.in_ok-first.ensures c.in_ok-term.ensures.read
 
 pub returns-in_err-formula-clause-read : goal.returns-in_err-formula-clause-read
 returns-in_err-formula-clause-read c = exit c.in_err-formula.ensures.read c.from_residual-in_err-formula.ensures.1 (λ f. Fails.right c.if-begins_operator.ensures f)

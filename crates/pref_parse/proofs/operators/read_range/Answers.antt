@@ -9,4 +9,4 @@ pub returns-in_err-high-clause-read : goal.returns-in_err-high-clause-read
 returns-in_err-high-clause-read c = exit c.in_err-high.ensures.read c.from_residual.ensures.1 (range_fails c.if-not-eat.ensures)
 
 pub returns-clause-read : goal.returns-clause-read
-returns-clause-read c = rw (c.in_ok-left.ensures, c.in_ok-right.ensures, c.into_term.ensures) (range_read c.if-not-eat.ensures c.in_ok-high.ensures.read)
+returns-clause-read c = rw (c.in_ok-left.ensures, c.in_ok-right.ensures) (range_read c.if-not-eat.ensures c.in_ok-high.ensures.read)

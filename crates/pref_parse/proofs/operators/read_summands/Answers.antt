@@ -12,7 +12,7 @@ pub returns-in_err-next-clause-read : goal.returns-in_err-next-clause-read
 returns-in_err-next-clause-read c = exit c.in_err-next.ensures.read c.from_residual.ensures.1 (summands_fail c.in-Some.op c.signs.invariant.so_far c.in-Some.ensures)
 
 pub signs-preserved : goal.signs-preserved
-signs-preserved c = record { shorter = grind (arith, common_steps); so_far = rw (c.in_ok-left.ensures, c.in_ok-right.ensures, c.into_term.ensures) (summands_more c.in-Some.op c.signs.invariant.so_far c.in-Some.ensures c.in_ok-next.ensures.read) }
+signs-preserved c = record { shorter = grind (arith, common_steps); so_far = rw (c.in_ok-left.ensures, c.in_ok-right.ensures) (summands_more c.in-Some.op c.signs.invariant.so_far c.in-Some.ensures c.in_ok-next.ensures.read) }
 
 pub returns-clause-read : goal.returns-clause-read
 returns-clause-read c = summands_end c.signs.invariant.so_far c.in_default.ensures

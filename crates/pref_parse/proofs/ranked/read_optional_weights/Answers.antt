@@ -2,7 +2,7 @@ use Rattle.pref_parse.proofs.RankLemmas.{either_ranked, either_unweighed}
 use Rattle.pref_parse.proofs.ranked.read_optional_weights.Goals as goal
 
 pub returns-then-begins_weights-clause-read : goal.returns-then-begins_weights-clause-read
-returns-then-begins_weights-clause-read c = either_ranked c.args.atom c.if-begins_weights.ensures c.into_term.ensures c.read_weighed.ensures.read
+returns-then-begins_weights-clause-read c = either_ranked c.args.atom c.if-begins_weights.ensures c.in_ok-first.ensures c.read_weighed.ensures.read
 
 pub returns-else-begins_weights-clause-read : goal.returns-else-begins_weights-clause-read
 returns-else-begins_weights-clause-read c = either_unweighed c.args.atom c.if-begins_weights.ensures c.unweighed.ensures
