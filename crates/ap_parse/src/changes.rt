@@ -74,7 +74,7 @@ fn copy_part(alloc: Global, part: &PartKind) -> Result<PartKind, AllocError>
 fn reversed(alloc: Global, mut statements: Statements) -> Result<Statements, AllocError>
     ensures { IfOk result (λ all. all ≡ reverse statements) }
 {
-    let mut all = Vec::with_capacity(alloc, statements.len())?;
+    let mut all = Vec::with_capacity(alloc, statements.as_slice().len())?;
     'statements: while let Some(last) = statements.pop() {
         all.push(last)?;
     }
@@ -95,7 +95,7 @@ pub fn changing(
     }
     let mut part = first;
     let mut rest = reversed(alloc, statements)?;
-    let mut kept = Vec::with_capacity(alloc, rest.len())?;
+    let mut kept = Vec::with_capacity(alloc, rest.as_slice().len())?;
     'statements: while let Some(next) = rest.pop() {
         if !repeats(&part, &next) {
             part = part_after(alloc, part, &next)?;

@@ -27,7 +27,7 @@ fn shown(alloc: Global, text: &str) -> Result<(String, String), Fail> {
     }
     let whole = match parse(alloc, text, PartKind::Base) {
         Ok(program) => {
-            let count = program.statements.len();
+            let count = program.statements.as_slice().len();
             format!(in alloc; "{count}")?
         }
         Err(fault) => fault_shown(alloc, fault)?,

@@ -1,5 +1,5 @@
 // Statements and programs.
-ghost use Rattle.std.specs.Prelude.{◌≡◌, [], ◌∷◌, ◌++◌, length, IsTrue, MatchOption, OnOk, ◌↔◌};
+ghost use Rattle.std.specs.Prelude.{◌≡◌, [], ◌∷◌, ◌++◌, MatchOption, OnOk};
 
 use crate::preferences::Preference;
 use crate::rules::Rule;
@@ -101,20 +101,6 @@ impl Statements {
         ensures { result.now ≡ self.now }
     {
         self.list.as_slice()
-    }
-
-    /// How many they are.
-    pub fn len(&self) -> usize
-        ensures { result ≡ length self.now }
-    {
-        self.list.len()
-    }
-
-    /// Whether there are none.
-    pub fn is_empty(&self) -> bool
-        ensures { IsTrue result ↔ (self.now ≡ []) }
-    {
-        self.list.is_empty()
     }
 
     /// Moves the statements of `more` to the end.

@@ -74,10 +74,10 @@ fn keeps_texts_of_each_length(rt: HostRuntime) -> Result<(), Fail> {
 fn takes_statements_from_the_end(rt: HostRuntime) -> Result<(), Fail> {
     let alloc = rt.alloc();
     let mut all = Statements::new(alloc);
-    assert!(rt; all.is_empty());
+    assert!(rt; all.as_slice().is_empty());
     all.append(Statements::fitted(two_parts(alloc)?))?;
     all.append(Statements::fitted(operators(alloc)?))?;
-    assert_eq!(rt; all.len(), 11);
+    assert_eq!(rt; all.as_slice().len(), 11);
     while let Some(_) = all.pop() {}
     assert_eq!(rt; all.as_slice().len(), 0);
     Ok(())

@@ -26,7 +26,7 @@ fn joined(
 ) -> Result<Statements, AllocError>
     ensures { IfOk result (λ all. all ≡ statements ++ more) }
 {
-    if statements.is_empty() {
+    if statements.as_slice().is_empty() {
         return Ok(more);
     }
     statements.append(more)?;
