@@ -6,7 +6,7 @@ use Rattle.ap_syntax.specs.declared.terms.Term.TheOpen.{Term-F}
 use Rattle.ap_syntax.specs.declared.terms.SumOp.{SumOp}
 use Rattle.ap_syntax.specs.declared.terms.ProductOp.{ProductOp}
 use Rattle.ap_pieces.specs.declared.variables.Occurrence.{Occurrence}
-use Rattle.ap_pieces.specs.Variables.{operands, joined, step, occurrences, occurrences_of}
+use Rattle.ap_pieces.specs.Variables.{under_operator, joined, step, occurrences, occurrences_of}
 use Rattle.ap_pieces.specs.Placed.{placed}
 
 pub placed_free : (os : List Occurrence) → placed true os ≡ os
@@ -18,8 +18,8 @@ placed_append free [] ys = refl
 placed_append free (x ∷ xs) ys = ap (λ os. record { name = x.name; is_argument = free && x.is_argument } ∷ os) (placed_append free xs ys)
 
 -- under an operator stands no argument
-placed_under : (free : Bool) (os : List Occurrence) → placed free (operands os) ≡ operands os
-placed_under true os = placed_free (operands os)
+placed_under : (free : Bool) (os : List Occurrence) → placed free (under_operator os) ≡ under_operator os
+placed_under true os = placed_free (under_operator os)
 placed_under false [] = refl
 placed_under false (o ∷ os) = ap (λ ps. record { name = o.name; is_argument = false } ∷ ps) (placed_under false os)
 
@@ -39,7 +39,7 @@ pub of_minus : (free : Bool) (t : Term) → placed free (occurrences (terms.Minu
 of_minus free t = ap (λ u. placed free (occurrences u)) (sym (terms.rolls-Minus t)) ∙ (ap (placed free) (fold-roll-Term (List Occurrence) step (Term-F.Minus t)) ∙ placed_under free (occurrences t))
 
 -- two operands, behind what was found before
-both_under : (free : Bool) (found : List Occurrence) (t l r : Term) → placed free (occurrences t) ≡ placed free (operands (occurrences l ++ occurrences r))
+both_under : (free : Bool) (found : List Occurrence) (t l r : Term) → placed free (occurrences t) ≡ placed free (under_operator (occurrences l ++ occurrences r))
     → found ++ placed free (occurrences t) ≡ (found ++ placed false (occurrences l)) ++ placed false (occurrences r)
 both_under free found t l r e =
     ap (λ os. found ++ os) (e ∙ (placed_under free (occurrences l ++ occurrences r) ∙ placed_append false (occurrences l) (occurrences r)))

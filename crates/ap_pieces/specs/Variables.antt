@@ -8,8 +8,8 @@ use Rattle.ap_pieces.specs.declared.variables.Occurrence.{Occurrence}
 -- and under no interval, at most inside compounds and tuples.
 
 -- the occurrences under an operator or an interval
-abbrev pub operands : List Occurrence → List Occurrence
-operands os = map (λ (o : Occurrence). record { name = o.name; is_argument = false }) os
+abbrev pub under_operator : List Occurrence → List Occurrence
+under_operator os = map (λ (o : Occurrence). record { name = o.name; is_argument = false }) os
 
 abbrev pub joined : List (List Occurrence) → List Occurrence
 joined parts = flat_map (λ part. part) parts
@@ -23,10 +23,10 @@ step (Term-F.Var name) = record { name = Some name; is_argument = true } ∷ []
 step Term-F.Any = record { name = None; is_argument = true } ∷ []
 step (Term-F.Fun name parts) = joined parts
 step (Term-F.Tuple parts) = joined parts
-step (Term-F.Minus part) = operands part
-step (Term-F.Sum left op right) = operands (left ++ right)
-step (Term-F.Product left op right) = operands (left ++ right)
-step (Term-F.Range low high) = operands (low ++ high)
+step (Term-F.Minus part) = under_operator part
+step (Term-F.Sum left op right) = under_operator (left ++ right)
+step (Term-F.Product left op right) = under_operator (left ++ right)
+step (Term-F.Range low high) = under_operator (low ++ high)
 
 -- the occurrences of variables in a term, in the order of the text
 abbrev pub occurrences : Term → List Occurrence

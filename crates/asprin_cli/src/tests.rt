@@ -236,114 +236,117 @@ fn texts(rt: HostRuntime) -> Result<(), Fail> {
 
 const ROW: &[u8] = b"{a;b}. :- not a, not b. #preference(p,subset){a;b}. #optimize(p).";
 
+/// Words, with the lines and the status of their runs: the file `f` has the row, and `g` has nothing.
+const WORDS: [(&[&str], &str, Status); 7] = [
+    (&[], "USAGE\n", Status::Usage),
+    (&["--sorted", "-n", "0"], "USAGE\n", Status::Usage),
+    (&["--sorted", "-n", "1", "f"], "USAGE\n", Status::Usage),
+    (&["--sorted", "-n", "0", "-f"], "USAGE\n", Status::Usage),
+    (&["--sorted", "-n", "0", "f", ""], "USAGE\n", Status::Usage),
+    (&["--sorted", "-n", "0", "h"], "SOURCE 1\n", Status::Source),
+    (
+        &["--sorted", "-n", "0", "f", "h"],
+        "SOURCE 2\n",
+        Status::Source,
+    ),
+];
+
 #[test]
-fn words_files_and_faults(rt: HostRuntime) -> Result<(), Fail> {
-    let row = reading(ROW, "", Status::Usage);
-    let usage = Case {
-        lines: "USAGE\n",
-        ..row
-    };
-    let source = Case {
-        lines: "SOURCE 1\n",
-        status: Status::Source,
-        ..row
-    };
-    let two = Case {
-        words: &TWO_FILES,
-        ..row
-    };
-    let cases = [
-        Case {
-            words: &[],
-            ..usage
-        },
-        Case {
-            words: &["--sorted", "-n", "0"],
-            ..usage
-        },
-        Case {
-            words: &["--sorted", "-n", "1", "f"],
-            ..usage
-        },
-        Case {
-            words: &["--sorted", "-n", "0", "-f"],
-            ..usage
-        },
-        Case {
-            words: &["--sorted", "-n", "0", "f", ""],
-            ..usage
-        },
-        Case {
-            words: &["--sorted", "-n", "0", "h"],
-            ..source
-        },
-        Case {
-            fails: &[0],
-            ..source
-        },
-        Case {
-            fails: &[1],
-            ..source
-        },
-        Case {
-            words: &["--sorted", "-n", "0", "f", "h"],
-            lines: "SOURCE 2\n",
-            ..source
-        },
-        Case {
-            lines: "OPTIMUM 1:",
-            room: 10,
-            status: Status::Sink,
+fn words(rt: HostRuntime) -> Result<(), Fail> {
+    for (at, (words, lines, status)) in WORDS.iter().enumerate() {
+        let row = reading(ROW, *lines, *status);
+        let case = Case {
+            words: *words,
             ..row
-        },
-        Case {
-            g: b":- a.",
-            lines: "OPTIMUM 1: b\nDONE 1\n",
-            status: Status::Done,
-            ..two
-        },
-        Case {
-            g: b"a. #external b.",
-            lines: "UNSUPPORTED 2:3 external\n",
-            status: Status::Unsupported,
-            ..two
-        },
-        Case {
-            g: b"#optimize(p).",
-            lines: "UNSUPPORTED 2:0 later\n",
-            status: Status::Unsupported,
-            ..two
-        },
-        Case {
-            f: b"#const n = 1.",
-            g: b"#const n = 2.",
-            lines: "NAMING 2:0 const\n",
-            status: Status::Naming,
-            ..two
-        },
-        Case {
-            f: b"a",
-            g: b".",
-            lines: "SYNTAX 1:1\n",
-            status: Status::Syntax,
-            ..two
-        },
-        Case {
-            f: b"a. \xff",
-            lines: "SYNTAX 1:3\n",
-            status: Status::Syntax,
-            ..row
-        },
-        Case {
-            f: b"% \xff\na.",
-            lines: "SYNTAX 1:2\n",
-            status: Status::Syntax,
-            ..row
-        },
-    ];
-    for (at, case) in cases.iter().enumerate() {
+        };
+        assert!(rt; passes(rt.alloc(), &case)?, "words {at}");
+    }
+    Ok(())
+}
+
+/// The bytes of two files, with the lines and the status of their run.
+const TWO: [(&[u8], &[u8], &str, Status); 7] = [
+    (ROW, b":- a.", "OPTIMUM 1: b\nDONE 1\n", Status::Done),
+    (
+        ROW,
+        b"a. #external b.",
+        "UNSUPPORTED 2:3 external\n",
+        Status::Unsupported,
+    ),
+    (
+        ROW,
+        b"#optimize(p).",
+        "UNSUPPORTED 2:0 later\n",
+        Status::Unsupported,
+    ),
+    (
+        b"#const n = 1.",
+        b"#const n = 2.",
+        "NAMING 2:0 const\n",
+        Status::Naming,
+    ),
+    (b"a", b".", "SYNTAX 1:1\n", Status::Syntax),
+    (b"a. \xff", b"", "SYNTAX 1:3\n", Status::Syntax),
+    (b"% \xff\na.", b"", "SYNTAX 1:2\n", Status::Syntax),
+];
+
+#[test]
+fn two_files(rt: HostRuntime) -> Result<(), Fail> {
+    for (at, (f, g, lines, status)) in TWO.iter().enumerate() {
+        let first = reading(*f, *lines, *status);
+        let case = Case {
+            words: &TWO_FILES,
+            g: *g,
+            ..first
+        };
+        assert!(rt; passes(rt.alloc(), &case)?, "files {at}");
+    }
+    Ok(())
+}
+
+#[test]
+fn failing_source_and_sink(rt: HostRuntime) -> Result<(), Fail> {
+    let source = reading(ROW, "SOURCE 1\n", Status::Source);
+    let opening = Case {
+        fails: &[0],
+        ..source
+    };
+    let first_read = Case {
+        fails: &[1],
+        ..source
+    };
+    let sink = Case {
+        room: 10,
+        ..reading(ROW, "OPTIMUM 1:", Status::Sink)
+    };
+    for (at, case) in [opening, first_read, sink].iter().enumerate() {
         assert!(rt; passes(rt.alloc(), case)?, "case {at}");
     }
+    Ok(())
+}
+
+/// Whether a run over so many files without statements answers this status and writes these lines.
+fn passes_files(
+    alloc: Global,
+    count: usize,
+    status: Status,
+    lines: &str,
+) -> Result<bool, AllocError> {
+    let mut words = words_of(alloc, &["--sorted", "-n", "0"])?;
+    for _ in 0..count {
+        words.push(String::from_str(alloc, "g")?)?;
+    }
+    let mut src = source_of(alloc, &[], &[], &[])?;
+    let mut out = MemSink::new(alloc, 100, Vec::new(alloc))?;
+    let mut cert = MemSink::new(alloc, 0, Vec::new(alloc))?;
+    let found = solve_run(alloc, &words, &mut src, &mut out, &mut cert);
+    Ok(found == status && out.bytes() == lines.as_bytes())
+}
+
+#[test]
+fn most_files(rt: HostRuntime) -> Result<(), Fail> {
+    assert!(rt; passes_files(rt.alloc(), 10_000, Status::Done, "OPTIMUM 1:\nDONE 1\n")?);
+    assert!(rt; passes_files(rt.alloc(), 10_001, Status::Usage, "USAGE\n")?);
     Ok(())
 }
 
