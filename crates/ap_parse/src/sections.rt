@@ -54,11 +54,7 @@ fn read_section(
 ///
 /// `Syntax` comes where the next token does not go on with a statement or `#program` that has begun; `Memory` for want of
 /// memory alone.
-pub fn read_text(
-    alloc: Global,
-    tokens: &mut Cursor<'_>,
-    of_type: bool,
-) -> Result<Statements, Stop>
+pub fn read_text(alloc: Global, tokens: &mut Cursor<'_>, of_type: bool) -> Result<Statements, Stop>
     ensures read { Reads (call (names.Text false of_type)) IsProgram tokens.old tokens.new result }
     ensures shorter { length tokens.new ≤ length tokens.old }
 {

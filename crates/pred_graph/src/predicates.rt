@@ -240,7 +240,11 @@ pub fn choice_preds(alloc: Global, head: &HeadForm) -> Result<Items<Pred>, Alloc
     let mut preds = Items::new(alloc);
     match head {
         HeadForm::One(_) => (),
-        HeadForm::Choice { elements, .. } => push_elements(alloc, &mut preds, elements.get().as_slice())?,
+        HeadForm::Choice { elements, .. } => push_elements(
+            alloc,
+            &mut preds,
+            elements.get().as_slice(),
+        )?,
         HeadForm::Nothing => (),
     }
     Ok(preds)

@@ -20,10 +20,7 @@ fn refusal(file: u32, fault: ParseFault) -> FrontFault
 }
 
 /// Some statements, and more behind them. Where there are none yet, what is more is taken as it is.
-fn joined(
-    mut statements: Statements,
-    more: Statements,
-) -> Result<Statements, AllocError>
+fn joined(mut statements: Statements, more: Statements) -> Result<Statements, AllocError>
     ensures { IfOk result (λ all. all ≡ statements ++ more) }
 {
     if statements.as_slice().is_empty() {

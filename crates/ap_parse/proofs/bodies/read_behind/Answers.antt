@@ -6,7 +6,7 @@ pub returns-in-Some-clause-read : goal.returns-in-Some-clause-read
 returns-in-Some-clause-read c = behind_related c.args.left c.in-Some.ensures c.in_ok-left.ensures c.read_related.ensures.read
 
 pub returns-in_err-aggregate-clause-read : goal.returns-in_err-aggregate-clause-read
-returns-in_err-aggregate-clause-read c = exit c.in_err-aggregate.ensures.read c.from_residual.ensures.1 (behind_aggregate_fails c.args.left c.in_default.ensures c.if-begins_aggregate.ensures)
+returns-in_err-aggregate-clause-read c = exit c.in_err-aggregate.ensures.read c.from_residual-in_err-aggregate.ensures.1 (behind_aggregate_fails c.args.left c.in_default.ensures c.if-begins_aggregate.ensures)
 
 pub returns-then-begins_aggregate-clause-read : goal.returns-then-begins_aggregate-clause-read
 returns-then-begins_aggregate-clause-read c = rw c.in_ok-new.ensures (behind_aggregate c.args.left c.in_default.ensures c.if-begins_aggregate.ensures c.in_ok-term.ensures c.in_ok-aggregate.ensures.read)

@@ -6,8 +6,7 @@ pub returns-in_err-literal-clause-read : goal.returns-in_err-literal-clause-read
 returns-in_err-literal-clause-read c = item_exit c.in_err-literal.ensures.read c.from_residual.ensures.1 (λ f. Fails.call (Fails.start f))
 
 pub returns-in-Aggregate-clause-read : goal.returns-in-Aggregate-clause-read
-returns-in-Aggregate-clause-read c = rw c.in_ok-new.ensures (item_aggregate c.in_ok-literal.ensures.read c.in-Aggregate.is)
-
+returns-in-Aggregate-clause-read c = rw c.in_ok-new-in-Aggregate.ensures (item_aggregate c.in_ok-literal.ensures.read c.in-Aggregate.is)
 
 pub returns-then-not-sees-clause-read : goal.returns-then-not-sees-clause-read
 returns-then-not-sees-clause-read c = item_plain c.in_ok-literal.ensures.read c.in-Literal.is c.if-not-sees.ensures
@@ -16,10 +15,10 @@ pub returns-in_err-condition-clause-read : goal.returns-in_err-condition-clause-
 returns-in_err-condition-clause-read c = item_exit c.in_err-condition.ensures.read c.from_residual-in_err-condition.ensures.1 (item_condition_fails c.in_ok-literal.ensures.read c.in-Literal.is c.if-not-sees.ensures)
 
 pub returns-clause-read : goal.returns-clause-read
-returns-clause-read c = rw c.in_ok-new-2.ensures (item_conditional c.in_ok-literal.ensures.read c.in-Literal.is c.place-place.result c.place-place.ensures c.if-not-sees.ensures c.in_ok-condition.ensures.read)
+returns-clause-read c = rw c.in_ok-new.ensures (item_conditional c.in_ok-literal.ensures.read c.in-Literal.is c.place-place.result c.place-place.ensures c.if-not-sees.ensures c.in_ok-condition.ensures.read)
+
+pub returns-in_err-new-in-Aggregate-clause-read : goal.returns-in_err-new-in-Aggregate-clause-read
+returns-in_err-new-in-Aggregate-clause-read c = item_memory c.from_residual-in_err-new-in-Aggregate.ensures.1
 
 pub returns-in_err-new-clause-read : goal.returns-in_err-new-clause-read
 returns-in_err-new-clause-read c = item_memory c.from_residual-in_err-new.ensures.1
-
-pub returns-in_err-new-2-clause-read : goal.returns-in_err-new-2-clause-read
-returns-in_err-new-2-clause-read c = item_memory c.from_residual-in_err-new-2.ensures.1

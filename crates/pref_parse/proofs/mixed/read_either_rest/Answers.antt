@@ -4,7 +4,7 @@ use Rattle.pref_parse.proofs.MixedLemmas.{either_term_fails, either_term, either
 use Rattle.pref_parse.proofs.mixed.read_either_rest.Goals as goal
 
 pub returns-in_err-term-clause-read : goal.returns-in_err-term-clause-read
-returns-in_err-term-clause-read c = exit c.in_err-term.ensures.read c.from_residual.ensures.1 (either_term_fails c.if-begins_operator.ensures)
+returns-in_err-term-clause-read c = exit c.in_err-term.ensures.read c.from_residual-in_err-term.ensures.1 (either_term_fails c.if-begins_operator.ensures)
 
 pub returns-then-begins_operator-clause-read : goal.returns-then-begins_operator-clause-read
 returns-then-begins_operator-clause-read c = either_term c.args.atom c.if-begins_operator.ensures c.in_ok-first.ensures c.in_ok-term.ensures.read
