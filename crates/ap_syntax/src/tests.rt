@@ -78,8 +78,10 @@ fn takes_statements_from_the_end(rt: HostRuntime) -> Result<(), Fail> {
     all.append(Statements::fitted(two_parts(alloc)?))?;
     all.append(Statements::fitted(operators(alloc)?))?;
     assert_eq!(rt; all.as_slice().len(), 11);
-    while let Some(_) = all.pop() {}
-    assert_eq!(rt; all.as_slice().len(), 0);
+    for _ in 0..11 {
+        assert!(rt; all.pop().is_some());
+    }
+    assert!(rt; all.pop().is_none());
     Ok(())
 }
 
