@@ -1,7 +1,7 @@
 -- The names of unbound occurrences, and that there is one list of them.
-use Rattle.std.proofs.Common.{◌≡◌, refl, sym, ◌∙◌, ap, ap₂, subst, ℕ, false, ◌||◌, List, [], ◌∷◌, ◌++◌, append_assoc}
+use Rattle.std.proofs.Common.{◌≡◌, refl, sym, ◌∙◌, ap, ap₂, subst, ℕ, ◌+◌, ◌<◌, false, ◌||◌, List, [], ◌∷◌, ◌++◌, append_assoc, length, drop, get_or, Some}
 use Rattle.std.specs.Prelude.{if◌then◌else◌, flat_map}
-use Rattle.std.proofs.lemmas.List.{append-nil}
+use Rattle.std.proofs.lemmas.List.{append-nil, drop_more}
 use mathlib.Core.Path.{fun_ext}
 use Rattle.ap_pieces.specs.declared.pieces.Mention.{Mention}
 use Rattle.ap_pieces.specs.declared.pieces.Piece.{Piece}
@@ -23,6 +23,11 @@ within_none none outside e = fun_ext (λ name. ap (λ b. if b then outside name 
 pub first_append : (xs ys : List (List ℕ)) → first_name (xs ++ ys) ≡ first_or (first_name xs) (first_name ys)
 first_append [] ys = refl
 first_append (x ∷ xs) ys = refl
+
+-- the first name of all, where the members before this one have none
+pub first_here : {X : Type 0} (names_of : X → List (List ℕ)) (xs : List X) (i : ℕ) (x : X) (name : List ℕ) → i < length xs → x ≡ get_or xs i x → first_name (names_of x) ≡ Some name → first_name (flat_map names_of (drop i xs)) ≡ Some name
+first_here names_of xs i x name h e n =
+    ap (λ ys. first_name (flat_map names_of ys)) (drop_more xs i x h ∙ ap (λ y. y ∷ drop (i + 1) xs) (sym e)) ∙ (first_append (names_of x) (flat_map names_of (drop (i + 1) xs)) ∙ ap (λ o. first_or o (first_name (flat_map names_of (drop (i + 1) xs)))) n)
 
 -- ---- piece by piece
 
