@@ -111,12 +111,13 @@ impl Statements {
         self.list.append(&mut list)
     }
 
-    /// Takes the last statement, if there is one. Where half of the block is not used any more, it is given back.
+    /// Takes the last statement, if there is one. What is not used of the block is given back as soon as it is more than an eighth.
     pub fn pop(&mut self) -> Option<Statement>
         ensures { MatchOption result ((self.old ≡ []) × (self.new ≡ [])) (λ last. self.old ≡ self.new ++ last ∷ []) }
     {
         let last = self.list.pop();
-        if self.list.len() < self.list.capacity() / 2 {
+        let block = self.list.capacity();
+        if self.list.len() < block - block / 8 {
             self.list.shrink_to_fit();
         }
         last
