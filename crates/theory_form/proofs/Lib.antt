@@ -1,3 +1,4 @@
+pub mod AtomLemmas
 pub mod ExtendLemmas
 pub mod LookLemmas
 pub mod NumberLemmas

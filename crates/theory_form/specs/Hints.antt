@@ -10,7 +10,8 @@ use Rattle.theory_form.specs.Truth.{IsUnitBy, IsFalseClause}
 abbrev pub made_true : List (Option Bool) → Lit → List (Option Bool)
 made_true a l = slice_set a l.var.0 (Some l.yes)
 
--- every literal of the clause is false, and every other variable has no value
+-- Every literal of the clause is false, and every other variable has no value. Of a literal and its opposite, which cannot
+-- both be false, the first in the clause is.
 abbrev pub all_false : ℕ → List Lit → List (Option Bool)
 all_false places [] = replicate places None
 all_false places (l ∷ c) = slice_set (all_false places c) l.var.0 (Some (not l.yes))

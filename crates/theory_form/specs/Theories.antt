@@ -1,13 +1,16 @@
 -- What a contract sees of a `Theory`.
-use Rattle.std.specs.Prelude.{◌≡◌, ℕ, ◌<◌, ◌≤◌, List, length, take, Option, Some}
+use Rattle.std.specs.Prelude.{◌≡◌, ℕ, ◌<◌, ◌≤◌, ◌↔◌, List, length, take, Option, Some}
+use Rattle.std.specs.List.{Contains}
 use Rattle.std.specs.Option.{option_and_then}
 use Rattle.theory_form.specs.declared.literals.Lit.{Lit}
+use Rattle.theory_form.specs.declared.literals.Var.{Var}
 use Rattle.theory_form.specs.declared.rows.SumRow.{SumRow}
 use Rattle.theory_form.specs.declared.rows.BodyRow.{BodyRow}
 use Rattle.theory_form.specs.declared.theories.Mark.{Mark}
 use Rattle.theory_form.specs.declared.rows.VarKind.{VarKind}
 use Rattle.theory_form.specs.declared.rows.VarKind.TheVariants.{Atom, Sum, Body, Search, Other}
 use Rattle.theory_form.specs.Kinds.{IsKind, IsRow, atom_block, atom_supports, sum_row, body_row}
+use Rattle.theory_form.specs.Literals.{AreAscending}
 use Rattle.theory_form.specs.Numbers.{at_number}
 
 -- its variables, by what they stand for; its clauses, with nothing at a number that was skipped; how many programs were
@@ -39,6 +42,11 @@ block_of t v = option_and_then atom_block (kind_of t v)
 
 abbrev pub supports_of : TheoryView → ℕ → Option (List Lit)
 supports_of t v = option_and_then atom_supports (kind_of t v)
+
+-- these are the atoms of a program, each once, in the order of their numbers
+pub record AreAtoms (t : TheoryView) (block : ℕ) (atoms : List Var) : Type 0 where
+  pub ascending : AreAscending atoms
+  pub members : (v : Var) → Contains atoms v ↔ (block_of t v.0 ≡ Some block)
 
 -- the variable is the search guard
 abbrev pub IsSearch : TheoryView → ℕ → Type 0

@@ -67,7 +67,7 @@ impl Assignment {
         Ok(())
     }
 
-    /// Makes a literal true.
+    /// Makes a literal true. There is room for its variable, which is below `places`.
     pub fn set(&mut self, l: Lit)
         requires { l.var.0 < length self.old }
         ensures { self.new ≡ slice_set self.old l.var.0 (Some l.yes) }
@@ -75,7 +75,7 @@ impl Assignment {
         self.values[l.var.0 as usize] = Some(l.yes);
     }
 
-    /// Takes the value of a variable away.
+    /// Takes the value of a variable away. There is room for it: it is below `places`.
     pub fn clear(&mut self, v: Var)
         requires { v.0 < length self.old }
         ensures { self.new ≡ slice_set self.old v.0 None }

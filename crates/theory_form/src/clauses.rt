@@ -41,7 +41,7 @@ pub fn is_ascending(lits: &[Lit]) -> bool
 }
 
 impl Clause {
-    /// The clause of these literals. It takes no memory.
+    /// The clause of these literals, which ascend without repeats (`is_ascending` tells). It takes no memory.
     pub fn new(lits: Vec<Lit>) -> Self
         requires { IsAscending lits.items }
         ensures { result ≡ lits.items }

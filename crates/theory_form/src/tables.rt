@@ -52,7 +52,7 @@ impl Marks {
         Ok(())
     }
 
-    /// Marks a variable.
+    /// Marks a variable, which has a bit: it was reserved.
     pub fn set(&mut self, v: Var)
         requires { v.0 < length self.old }
         ensures { self.new ≡ slice_set self.old v.0 true }
@@ -60,7 +60,7 @@ impl Marks {
         self.bits[v.0 as usize] = true;
     }
 
-    /// Takes the mark of a variable away.
+    /// Takes the mark of a variable away, which has a bit: it was reserved.
     pub fn clear(&mut self, v: Var)
         requires { v.0 < length self.old }
         ensures { self.new ≡ slice_set self.old v.0 false }

@@ -57,6 +57,8 @@ fn each_reader_answers_its_kind_alone(rt: HostRuntime) -> Result<(), Fail> {
     let other = theory.add_var(VarKind::Other)?;
     assert_eq!(rt; theory.var_count(), 5);
     assert_eq!(rt; theory.blocks(), 1);
+    assert_eq!(rt; theory.atoms(block), [atom].as_slice());
+    assert_eq!(rt; theory.atoms(1).len(), 0);
     assert_eq!(rt; theory.search_guard(), positive(1));
     for v in [Var(0), guard, atom, body, sum, other, Var(6)] {
         assert_eq!(rt; theory.block_of(v).is_some(), v == atom);

@@ -1,9 +1,11 @@
 // The theory: variables and clauses under numbers.
-ghost use Rattle.std.specs.Prelude.{◌≡◌, ℕ, ◌+◌, ◌-◌, ◌<◌, ◌≤◌, ◌++◌, [], ◌∷◌, length, max, true, Some, None, IfOk, IfSome, OnOk, OnErr};
+ghost use Rattle.std.specs.Prelude.{◌≡◌, ℕ, ◌+◌, ◌-◌, ◌<◌, ◌≤◌, ◌++◌, [], ◌∷◌, length, map, take, max, true, Some, None, IfOk, OnOk, OnErr};
+ghost use Rattle.std.specs.List.{All};
 ghost use Rattle.std.specs.Option.{option_copied};
-ghost use Rattle.theory_form.specs.Kept.{HasNumber, IsCutGuard, guard_after, kept_body, kept_kind, kept_sum};
+ghost use Rattle.theory_form.specs.Kept.{AreLists, HasNumber, IsCutGuard, Unlists, guard_after, kept_body, kept_kind, kept_sum, listed};
+ghost use Rattle.theory_form.specs.Kinds.{IsKind};
 ghost use Rattle.theory_form.specs.Numbers.{at_number};
-ghost use Rattle.theory_form.specs.Theories.{CanAdd, IsMarkOf, IsSearch, IsTheory, block_of, body_of, clause_of, cut_to, mark_of, row_of, supports_of};
+ghost use Rattle.theory_form.specs.Theories.{AreAtoms, CanAdd, IsMarkOf, IsSearch, IsTheory, block_of, body_of, clause_of, cut_to, mark_of, row_of, supports_of};
 
 use crate::clauses::Clause;
 use crate::literals::{ClauseId, Lit, Var};
@@ -58,24 +60,25 @@ impl Variable {
 /// skipped, the number of programs that were begun, and the number of entries that are reserved for `skip`.
 #[derive(Drop)]
 pub struct Theory {
+    alloc: Global,
     variables: Vec<Variable>,
     clauses: Vec<Option<Clause>>,
-    blocks: u64,
+    blocks: Vec<Items<Var>>,
     reserved: u64,
     guard: Option<Var>,
 }
 
 impl Model for Theory {
-    ghost use Rattle.std.specs.Prelude.{map, vec_capacity};
+    ghost use Rattle.std.specs.Prelude.{length, map, vec_capacity};
     ghost use Rattle.theory_form.specs.Theories.{TheoryView};
 
     ghost Value = { TheoryView };
 
     ghost use Rattle.theory_form.specs.Kept.{kept_kind, HoldsTheory};
 
-    ghost view = { λ t. record { variables = map kept_kind t.variables.items; clauses = t.clauses.items; blocks = t.blocks; reserved = t.reserved } };
+    ghost view = { λ t. record { variables = map kept_kind t.variables.items; clauses = t.clauses.items; blocks = length t.blocks.items; reserved = t.reserved } };
 
-    ghost invariant = { λ t. HoldsTheory t.variables.items t.clauses.items t.blocks t.reserved t.guard (vec_capacity t.clauses) };
+    ghost invariant = { λ t. HoldsTheory t.variables.items t.clauses.items t.blocks.items t.reserved t.guard (vec_capacity t.clauses) };
 }
 
 impl Theory {
@@ -84,9 +87,10 @@ impl Theory {
         ensures { result ≡ record { variables = []; clauses = []; blocks = 0; reserved = 0 } }
     {
         Theory {
+            alloc,
             variables: Vec::new(alloc),
             clauses: Vec::new(alloc),
-            blocks: 0,
+            blocks: Vec::new(alloc),
             reserved: 0,
             guard: None,
         }
@@ -155,10 +159,20 @@ impl Theory {
     pub fn blocks(&self) -> u64
         ensures { result ≡ self.now.blocks }
     {
-        self.blocks
+        self.blocks.len() as u64
     }
 
-    /// The positive literal of the search guard.
+    /// The atoms of a program, ascending; there are none where that program was not begun.
+    pub fn atoms(&self, block: u64) -> &[Var]
+        ensures { AreAtoms self.now block result.now }
+    {
+        match self.blocks.get(block as usize) {
+            Some(atoms) => atoms.as_slice(),
+            None => &[],
+        }
+    }
+
+    /// The positive literal of the search guard. The theory has one: a variable of kind `Search` was added.
     pub fn search_guard(&self) -> Lit
         requires { (v : ℕ) × IsSearch self.now v }
         ensures guard { IsSearch self.now result.var.0 }
@@ -177,21 +191,16 @@ impl Theory {
         ClauseId(self.clauses.len() as u64 + 1)
     }
 
-    /// Begins the next program and answers its number, the first being 0. Only memory can run out (or the numbers, at
-    /// 2^64 - 1), and then nothing changes.
+    /// Begins the next program, as yet without atoms, and answers its number, the first being 0. Only memory can run out,
+    /// and then nothing changes.
     pub fn add_block(&mut self) -> Result<u64, AllocError>
         ensures number { IfOk result (λ block. block ≡ self.old.blocks) }
         ensures ok { OnOk result (self.new ≡ record self.old { blocks = self.old.blocks + 1 }) }
         ensures err { OnErr result (self.new ≡ self.old) }
     {
-        let block = self.blocks;
-        match block.checked_add(1) {
-            Some(blocks) => {
-                self.blocks = blocks;
-                Ok(block)
-            }
-            None => Err(AllocError),
-        }
+        let block = self.blocks.len() as u64;
+        self.blocks.push(Items::new(self.alloc))?;
+        Ok(block)
     }
 
     /// Adds a variable and answers it. The program of an atom was begun, the terms of a sum are reckoned without overflow
@@ -205,6 +214,7 @@ impl Theory {
     {
         self.variables.reserve(1)?;
         let var = Var(self.variables.len() as u64 + 1);
+        list_atom(&mut self.blocks, var, &kind)?;
         self.guard = guard_with(self.guard, var, &kind);
         self.variables.push_reserved(kept(var, kind));
         Ok(var)
@@ -234,7 +244,8 @@ impl Theory {
         Ok(())
     }
 
-    /// Takes the next number for a clause that is kept elsewhere. It uses a reserved entry, and takes no memory.
+    /// Takes the next number for a clause that is kept elsewhere. An entry is reserved, as `reserve_id` does; it is used, and
+    /// no memory is taken.
     pub fn skip(&mut self) -> ClauseId
         requires { 0 < self.old.reserved }
         ensures number { result.0 ≡ length self.old.clauses + 1 }
@@ -253,7 +264,7 @@ impl Theory {
         Mark {
             variables: self.variables.len() as u64,
             clauses: self.clauses.len() as u64,
-            blocks: self.blocks,
+            blocks: self.blocks.len() as u64,
         }
     }
 
@@ -263,9 +274,9 @@ impl Theory {
         requires { IsMarkOf m.now self.old }
         ensures { self.new ≡ cut_to m.now self.old }
     {
-        self.variables.truncate(m.variables as usize);
+        cut_variables(&mut self.variables, &mut self.blocks, m.variables);
         self.clauses.truncate(m.clauses as usize);
-        self.blocks = m.blocks;
+        self.blocks.truncate(m.blocks as usize);
         self.guard = guard_within(self.guard, m.variables);
     }
 }
@@ -277,6 +288,43 @@ fn entry_at<T>(entries: &[T], number: u64) -> Option<&T>
     match number.checked_sub(1) {
         Some(place) => entries.get(place as usize),
         None => None,
+    }
+}
+
+// Lists a new variable among the atoms of its program, if it is an atom.
+fn list_atom(blocks: &mut Vec<Items<Var>>, var: Var, kind: &VarKind) -> Result<(), AllocError>
+    requires { IsKind (length blocks.old.items) kind.now }
+    ensures ok { OnOk result (blocks.new.items ≡ listed blocks.old.items var kind.now) }
+    ensures err { OnErr result (blocks.new.items ≡ blocks.old.items) }
+{
+    if let VarKind::Atom { block, .. } = kind {
+        blocks[*block as usize].push(var)?;
+    }
+    Ok(())
+}
+
+// Takes the last variable out of the list of its program, if it is an atom.
+fn unlist_atom(blocks: &mut Vec<Items<Var>>, last: &Variable)
+    requires { IsKind (length blocks.old.items) (kept_kind last.now) }
+    ensures { Unlists blocks.old.items blocks.new.items (kept_kind last.now) }
+{
+    if let Variable::Atom { block, .. } = last {
+        blocks[*block as usize].pop();
+    }
+}
+
+// Takes the variables above a number away, and their atoms out of the lists of their programs.
+fn cut_variables(variables: &mut Vec<Variable>, blocks: &mut Vec<Items<Var>>, count: u64)
+    requires kinds { All (λ x. IsKind (length blocks.old.items) (kept_kind x)) variables.old.items }
+    requires lists { AreLists (map kept_kind variables.old.items) blocks.old.items }
+    ensures size { length blocks.new.items ≡ length blocks.old.items }
+    ensures variables { variables.new.items ≡ take count variables.old.items }
+    ensures lists { AreLists (map kept_kind variables.new.items) blocks.new.items }
+{
+    while variables.len() as u64 > count {
+        if let Some(last) = variables.pop() {
+            unlist_atom(blocks, &last);
+        }
     }
 }
 
