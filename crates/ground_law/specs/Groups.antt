@@ -61,11 +61,14 @@ right_guard (Some guard) (Some v) = Some (guard_of (same_rel guard.rel) (λ n. c
 -- ---- tuples with their conditions: positive and negative atoms
 
 abbrev pub OfAggregate : List (List ℕ) → Substitution → List Element → Values → List Value → List Value → Type 0
-OfAggregate globals s elements t ps ns = (e : Element) × (u : Substitution) × Contains elements e × Agrees globals s u × AreValues u e.terms t × AreConditionAtoms u e.condition ps ns
+OfAggregate globals s elements t ps ns = (e : Element) × (u : Substitution) × Contains elements e × Agrees globals s u
+    × AreValues u e.terms t × AreConditionAtoms u e.condition ps ns
 
 -- the tuples of a choice are its atoms; the condition of an atom has that atom too
 abbrev pub OfChoice : List (List ℕ) → Substitution → List Choosable → Values → List Value → List Value → Type 0
-OfChoice globals s elements t ps ns = (e : Choosable) × (u : Substitution) × (a : Value) × (qs : List Value) × Contains elements e × Agrees globals s u × IsAtom u e.atom a × AreConditionAtoms u e.condition qs ns × (t ≡ also a none) × (ps ≡ a ∷ qs)
+OfChoice globals s elements t ps ns = (e : Choosable) × (u : Substitution) × (a : Value) × (qs : List Value)
+    × Contains elements e × Agrees globals s u × IsAtom u e.atom a × AreConditionAtoms u e.condition qs ns
+    × (t ≡ also a none) × (ps ≡ a ∷ qs)
 
 -- ---- groups
 
@@ -77,19 +80,23 @@ weight_of Sum (also (constant name) vs) = None
 weight_of Sum (also (string bytes) vs) = None
 weight_of Sum (also (compound name ws) vs) = None
 
-module _ (setting : Setting) (atoms : List Value) (lower : Values → Value → Type 0) (function : Function) (comes : Values → List Value → List Value → Type 0) where
+module _ (setting : Setting) (atoms : List Value) (lower : Values → Value
+    → Type 0) (function : Function) (comes : Values → List Value → List Value → Type 0) where
   -- the conditions of the tuple that exist, each once and in order
   pub record IsTupleRow (t : Values) (row : GroupRow) : Type 0 where
     pub weight : row.weight ≡ weight_of function t
-    pub sound : (cs : List ℤ) → Contains row.conditions cs → (ps ns : List Value) × comes t ps ns × Exists setting (lower t) ps ns × AreGroundLiterals atoms (Contains ps) (Contains ns) cs
-    pub whole : (ps ns : List Value) → comes t ps ns → Exists setting (lower t) ps ns → (cs : List ℤ) × Contains row.conditions cs × AreGroundLiterals atoms (Contains ps) (Contains ns) cs
+    pub sound : (cs : List ℤ) → Contains row.conditions cs → (ps ns : List Value) × comes t ps ns
+        × Exists setting (lower t) ps ns × AreGroundLiterals atoms (Contains ps) (Contains ns) cs
+    pub whole : (ps ns : List Value) → comes t ps ns → Exists setting (lower t) ps ns → (cs : List ℤ)
+        × Contains row.conditions cs × AreGroundLiterals atoms (Contains ps) (Contains ns) cs
     pub ordered : AllPairs (λ c d. IsTrue (is_lt (literals_cmp c d))) row.conditions
 
   -- the tuples with a condition that exists, each once and in order
   pub record IsGroundGroup (on_left on_right : Option GroupGuard) (h : Group) : Type 0 where
     pub tuples : List Values
     pub ordered : AllPairs (λ t u. IsTrue (is_lt (value_cmp (compound [] t) (compound [] u)))) tuples
-    pub members : (t : Values) → Contains tuples t ↔ ((ps ns : List Value) × comes t ps ns × Exists setting (lower t) ps ns)
+    pub members : (t : Values) → Contains tuples t
+        ↔ ((ps ns : List Value) × comes t ps ns × Exists setting (lower t) ps ns)
     pub rows : AllZip IsTupleRow tuples h.rows
     pub left : h.left ≡ on_left
     pub right : h.right ≡ on_right

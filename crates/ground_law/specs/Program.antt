@@ -56,7 +56,8 @@ abbrev pub guard_key : ℕ → GuardUse → List ℕ
 guard_key n guarded = (n + 2) * 2 ∷ guarded.group ∷ guarded.guard ∷ (if guarded.yes then 0 else 1) ∷ []
 
 abbrev pub body_keys : ℕ → Body → List (List ℕ)
-body_keys n body = map (λ c. literal_place c ∷ []) body.lits ++ put_if body.always ((n + 1) * 2 ∷ []) (put_if body.never (suc ((n + 1) * 2) ∷ []) (map (guard_key n) body.guards))
+body_keys n body = map (λ c. literal_place c ∷ []) body.lits
+    ++ put_if body.always ((n + 1) * 2 ∷ []) (put_if body.never (suc ((n + 1) * 2) ∷ []) (map (guard_key n) body.guards))
 
 abbrev pub body_cmp : ℕ → Body → Body → Ordering
 body_cmp n b c = slice_cmp (slice_cmp nat_cmp) (body_keys n b) (body_keys n c)
@@ -79,6 +80,8 @@ pub record IsGroundProgram (table : List Value) (setting : Setting) (g : Parts) 
   pub all_groups : length g.groups ≡ groups_of found
   pub rules_ordered : AllPairs (λ r s. IsTrue (is_lt (rule_cmp r s))) g.rules
   pub bodies_ordered : AllPairs (λ b c. IsTrue (is_lt (body_cmp (length g.atoms) b c))) g.bodies
-  pub bodies_used : (k : ℕ) (b : Body) → numbered g.bodies k ≡ Some b → (r : GroundRule) × Contains g.rules r × (r.body.0 ≡ k)
-  pub inputs : (a : AtomId) → Contains g.inputs a ↔ ((v : Value) × Contains setting.inputs v × IsAtomNumber (map (value_at table) g.atoms) a.0 v)
+  pub bodies_used : (k : ℕ) (b : Body) → numbered g.bodies k ≡ Some b → (r : GroundRule) × Contains g.rules r
+      × (r.body.0 ≡ k)
+  pub inputs : (a : AtomId) → Contains g.inputs a
+      ↔ ((v : Value) × Contains setting.inputs v × IsAtomNumber (map (value_at table) g.atoms) a.0 v)
   pub inputs_ordered : AllPairs (λ (a b : AtomId). IsTrue (is_lt (nat_cmp a.0 b.0))) g.inputs

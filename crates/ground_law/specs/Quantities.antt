@@ -34,8 +34,10 @@ IsRelevantKey setting key = HasInstance (λ i. IsInstance setting.rules i × IsR
 pub record IsTried (setting : Setting) (assigned : Aggregate → Bool) (i : Instance) : Type 0 where
   pub asked : (b : Value) → IsAsked setting i b → IsPossible setting b
   pub barred : MayApply setting i.rule.head (IsBarred setting i)
-  pub compared : (u : Substitution) (l : trees.Term) (rel : Rel) (r : trees.Term) (v w : Value) → Stands setting i u (Compare l rel r) → IsValue u l v → IsValue u r w → IsTrue (compares rel v w)
-  pub values : (u : GuardedAggregate) → Contains i.aggregates u → IsTrue (assigned u.aggregate) → GuardedHolds (global_variables i.rule) (IsCertain setting) (IsUncertain setting) i.values u
+  pub compared : (u : Substitution) (l : trees.Term) (rel : Rel) (r : trees.Term) (v w : Value)
+      → Stands setting i u (Compare l rel r) → IsValue u l v → IsValue u r w → IsTrue (compares rel v w)
+  pub values : (u : GuardedAggregate) → Contains i.aggregates u → IsTrue (assigned u.aggregate)
+      → GuardedHolds (global_variables i.rule) (IsCertain setting) (IsUncertain setting) i.values u
 
 -- the group is the choice's, or that of the aggregate at this place
 pub record Pair : Type 0 where
@@ -49,12 +51,20 @@ IsGuarded left right = ((g : Guard) × (left ≡ Some g)) ⊎ ((g : Guard) × (r
 
 abbrev pub IsChoicePair : Setting → List Value → Instance → Head → Pair → Type 0
 IsChoicePair setting atoms i (One atom) p = ⊥
-IsChoicePair setting atoms i (Choice left elements right) p = IsGuarded left right × (p.group ≡ None) × ((ps ns : List Value) × OfChoice (global_variables i.rule) i.values elements p.tuple ps ns × Exists setting (IsBelowAtom setting p.tuple) ps ns × AreGroundLiterals atoms (Contains ps) (Contains ns) p.condition)
+IsChoicePair setting atoms i (Choice left elements right) p = IsGuarded left right × (p.group ≡ None)
+    × ((ps ns : List Value) × OfChoice (global_variables i.rule) i.values elements p.tuple ps ns
+    × Exists setting (IsBelowAtom setting p.tuple) ps ns
+    × AreGroundLiterals atoms (Contains ps) (Contains ns) p.condition)
 IsChoicePair setting atoms i Nothing p = ⊥
 
 abbrev pub IsUsePair : Setting → List Value → Instance → Pair → Type 0
-IsUsePair setting atoms i p = (j : ℕ) × (u : GuardedAggregate) × (p.group ≡ Some j) × (slice_get i.aggregates j ≡ Some u) × ((ps ns : List Value) × OfAggregate (global_variables i.rule) i.values u.aggregate.elements p.tuple ps ns × Exists setting (IsLowest setting i p.tuple) ps ns × AreGroundLiterals atoms (Contains ps) (Contains ns) p.condition)
+IsUsePair setting atoms i p = (j : ℕ) × (u : GuardedAggregate) × (p.group ≡ Some j)
+    × (slice_get i.aggregates j ≡ Some u) × ((ps ns : List Value)
+    × OfAggregate (global_variables i.rule) i.values u.aggregate.elements p.tuple ps ns
+    × Exists setting (IsLowest setting i p.tuple) ps ns
+    × AreGroundLiterals atoms (Contains ps) (Contains ns) p.condition)
 
 -- the atoms are those with a number, the possible ones in order
 abbrev pub IsPair : Setting → (Aggregate → Bool) → List Value → Pair → Type 0
-IsPair setting assigned atoms p = HasInstance (λ i. IsInstance setting.rules i × IsTried setting assigned i × (IsChoicePair setting atoms i i.rule.head p ⊎ IsUsePair setting atoms i p)) p.comes
+IsPair setting assigned atoms p = HasInstance (λ i. IsInstance setting.rules i × IsTried setting assigned i
+    × (IsChoicePair setting atoms i i.rule.head p ⊎ IsUsePair setting atoms i p)) p.comes
