@@ -10,7 +10,7 @@ use Rattle.rule_form.specs.Instances.{Instance}
 use Rattle.ground_law.specs.Ground.{IsGrounding, IsGuardRule, IsHeadRule, extras_of}
 use Rattle.ground_law.specs.Guards.{no_extras}
 use Rattle.ground_law.specs.Literals.{IsAtomNumber}
-use Rattle.ground_law.specs.Numbers.{at_value, numbers, values}
+use Rattle.ground_law.specs.Numbers.{at_value, numbers, atoms_at}
 use Rattle.ground_law.proofs.Derives.{GroundDerivesAt, to_ground, from_ground}
 use Rattle.ground_law.proofs.Literals.{and_true}
 use Rattle.ground_law.proofs.Lookup.{number_of, at_number, body_is, kept_some}
@@ -130,7 +130,7 @@ module _ (assigned : Aggregate → Bool) (st : Setting) (judges : (g : Aggregate
 
   -- the test of possible atoms
   abbrev possible : AtomSet
-  possible = values atoms (λ k. true)
+  possible = atoms_at atoms (λ k. true)
 
   is_possible : (a : Value) → IsTrue (possible a) → IsPossible st a
   is_possible a t = let (k, num, h) = in_values atoms (λ k. true) a t in (grounding.possible a).0 (at_number atoms k a num)
@@ -212,13 +212,13 @@ module _ (assigned : Aggregate → Bool) (st : Setting) (judges : (g : Aggregate
 
   -- the set of the values of numbers that lie in x
   module _ (x : AtomSet) (w : ℕ → Bool) (sub : (k : ℕ) → IsTrue (w k) → IsTrue (numbers atoms x k)) where
-    same_numbers : numbers atoms (values atoms w) ≡ w
+    same_numbers : numbers atoms (atoms_at atoms w) ≡ w
     same_numbers = fun_ext (numbers_of_values atoms atoms_apart w (λ k t. let (b, num, xb) = number_true atoms x k (sub k t) in (b, num)))
 
-    values_within : IsSubset (values atoms w) x
+    values_within : IsSubset (atoms_at atoms w) x
     values_within a t = let (k, num, wk) = in_values atoms w a t in subst (λ o. IsTrue (at_value x o)) num (sub k wk)
 
-    values_closed : IsClosed (GroundDerives g) are_facts (numbers atoms x) w → IsClosed (GroundDerivesAt g atoms) Handed x (values atoms w)
+    values_closed : IsClosed (GroundDerives g) are_facts (numbers atoms x) w → IsClosed (GroundDerivesAt g atoms) Handed x (atoms_at atoms w)
     values_closed c = record {
       has_facts = λ a (k, num, t). values_in atoms w a k num (c.has_facts k t);
       has_heads = λ a (k, num, d). values_in atoms w a k num (c.has_heads k (subst (λ v. GroundDerives g (numbers atoms x) v k) same_numbers d));
@@ -236,7 +236,7 @@ module _ (assigned : Aggregate → Bool) (st : Setting) (judges : (g : Aggregate
       finite = (upto (suc (length atoms)), λ k t. let (b, num, xb) = number_true atoms x k t in in_upto atoms k b num);
       closed = numbers_closed x x h.closed;
       minimal = λ w sub c. λ k t. let (b, num, xb) = number_true atoms x k t in
-          let (j, num', wj) = in_values atoms w b (h.minimal (values atoms w) (values_within x w sub) (values_closed x w sub c) b xb) in
+          let (j, num', wj) = in_values atoms w b (h.minimal (atoms_at atoms w) (values_within x w sub) (values_closed x w sub c) b xb) in
           subst (λ m. IsTrue (w m)) (one_number atoms atoms_apart j k b num' num) wj;
       permitted = h.permitted;
     })
@@ -299,5 +299,5 @@ module _ (assigned : Aggregate → Bool) (st : Setting) (judges : (g : Aggregate
           (literals_grow z numbered_part z part_in (literals_of g rule.body.0) (right_true (aggregates_true g z rule.body.0) (list_all (literal_by z numbered_part) (literals_of g rule.body.0)) body)))))));
     }
 
-    pub answers_are_of_atoms : numbers atoms (values atoms z) ≡ z
+    pub answers_are_of_atoms : numbers atoms (atoms_at atoms z) ≡ z
     answers_are_of_atoms = fun_ext (numbers_of_values atoms atoms_apart z (λ k t. part_number k (h.minimal numbered_part part_in closed_part k t)))

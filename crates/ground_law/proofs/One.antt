@@ -13,10 +13,10 @@ use Rattle.ap_term.specs.declared.shape.TermId.{TermId}
 use Rattle.ap_term.specs.Table.{IsIdOf, value_at, HasDistinctValues}
 use Rattle.ap_term.specs.Value.{Value}
 use Rattle.rule_form.specs.Instances.{Instance}
-use Rattle.ground_law.specs.Ground.{IsUseGroup, AreChoiceGroups, StandFrom, IsGroundBody, IsGuardRule, IsHeadRule, HasGuardRules, HasHeadRules, HasGroups, extras_of, IsGrounding}
+use Rattle.ground_law.specs.Ground.{IsAggregateGroup, AreChoiceGroups, StandFrom, IsGroundBody, IsGuardRule, IsHeadRule, HasGuardRules, HasHeadRules, HasGroups, extras_of, IsGrounding}
 use Rattle.ground_law.specs.Guards.{Extras, no_extras, joined, guard_extra, extras_from, body_of}
 use Rattle.ground_law.specs.Literals.{IsAtomNumber}
-use Rattle.ground_law.specs.Program.{found_cmp, choice_groups, groups_count, placed_from, groups_of, body_keys, body_cmp, head_key, rule_cmp, IsGroundProgram}
+use Rattle.ground_law.specs.Program.{instance_cmp, choice_groups, groups_count, placed_from, groups_of, body_keys, body_cmp, head_key, rule_cmp, IsGroundProgram}
 use Rattle.rule_form.specs.Relevant.{IsAsked, IsBarred}
 use Rattle.rule_form.proofs.Instances.{same_head, same_tail}
 use Rattle.ground_law.proofs.Lookup.{number_of, at_number, at_place}
@@ -85,7 +85,7 @@ module _ (st : Setting) (g g' : Parts) (atoms : List Value) where
       (λ f c. q f (there (i, n) (placed_from (n + groups_count i) found) f c)) (λ f c. q' f (there (j, m) (placed_from (m + groups_count j) found') f c)) in
       let xs : List Group = a.choice ++ a.own in
       let l1 : length a.choice ≡ choice_groups i.rule.head = choice_length st atoms i i.rule.head a.choice a.choice_is in
-      let l2 : length a.own ≡ length i.aggregates = zip_length (IsUseGroup st atoms i) i.aggregates a.own a.own_are in
+      let l2 : length a.own ≡ length i.aggregates = zip_length (IsAggregateGroup st atoms i) i.aggregates a.own a.own_are in
       let l3 : length (a.choice ++ a.own) ≡ length a.choice + length a.own = append_length a.choice a.own in
       let l : length (a.choice ++ a.own) ≡ groups_count i = omega (arith, l1, l2, l3) in
       let there_ : StandFrom g'.groups m (a.choice ++ a.own) = subst (λ cs. StandFrom g'.groups m (cs ++ a.own)) (sym (choice_is st atoms i j h g g' n m a b)) (subst (λ os. StandFrom g'.groups m (b.choice ++ os)) (sym (own_is st atoms i j h g g' n m a b)) b.stand) in
@@ -103,7 +103,7 @@ groups_are groups hs s e = lists_same hs groups e (λ j h at. let q : 1 + j ≡ 
 -- ---- rules
 
 module _ (st : Setting) (g g' : Parts) (atoms : List Value) (found found' : List Instance) (p : IsGrounding st g atoms (placed_from 1 found)) (p' : IsGrounding st g' atoms (placed_from 1 found'))
-    (in_order : AllPairs (λ i j. IsTrue (is_lt (found_cmp i j))) found) (in_order' : AllPairs (λ i j. IsTrue (is_lt (found_cmp i j))) found') where
+    (in_order : AllPairs (λ i j. IsTrue (is_lt (instance_cmp i j))) found) (in_order' : AllPairs (λ i j. IsTrue (is_lt (instance_cmp i j))) found') where
   -- the other program has a rule with the same head and the same body
   abbrev pub HasLike : GroundRule → Type 0
   HasLike r = (s : GroundRule) × ((b : Body) × (numbered g.bodies r.body.0 ≡ Some b) × (numbered g'.bodies s.body.0 ≡ Some b)) × Contains g'.rules s × (s.head ≡ r.head)

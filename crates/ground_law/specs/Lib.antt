@@ -1,6 +1,7 @@
 pub mod Grounds
 pub mod Numbers
 pub mod Literals
+pub mod Facts
 pub mod Groups
 pub mod Guards
 pub mod Ground
