@@ -14,4 +14,5 @@ pub mod Answers
 pub mod Unique
 pub mod Pairs
 pub mod One
+pub mod InRange
 pub mod Example

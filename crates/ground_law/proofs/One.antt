@@ -39,21 +39,21 @@ use Rattle.rule_form.specs.Instances.{IsSame}
 
 -- ---- groups
 
-stand_append : (groups : List Group) (k : ℕ) (xs ys : List Group) → StandFrom groups k xs → StandFrom groups (k + length xs) ys → StandFrom groups k (xs ++ ys)
+pub stand_append : (groups : List Group) (k : ℕ) (xs ys : List Group) → StandFrom groups k xs → StandFrom groups (k + length xs) ys → StandFrom groups k (xs ++ ys)
 stand_append groups k [] ys h t = let e : k + 0 ≡ k = omega arith in subst (λ n. StandFrom groups n ys) e t
 stand_append groups k (x ∷ xs) ys h t = let e : k + suc (length xs) ≡ suc k + length xs = omega arith in (h.0, stand_append groups (suc k) xs ys h.1 (subst (λ n. StandFrom groups n ys) e t))
 
-append_length : {X : Type 0} (xs ys : List X) → length (xs ++ ys) ≡ length xs + length ys
+pub append_length : {X : Type 0} (xs ys : List X) → length (xs ++ ys) ≡ length xs + length ys
 append_length [] ys = let e : length ys ≡ 0 + length ys = omega arith in e
 append_length (x ∷ xs) ys = let ih : length (xs ++ ys) ≡ length xs + length ys = append_length xs ys in let e : suc (length (xs ++ ys)) ≡ suc (length xs) + length ys = omega (arith, ih) in e
 
-zip_length : {X Y : Type 0} (R : X → Y → Type 0) (xs : List X) (ys : List Y) → AllZip R xs ys → length ys ≡ length xs
+pub zip_length : {X Y : Type 0} (R : X → Y → Type 0) (xs : List X) (ys : List Y) → AllZip R xs ys → length ys ≡ length xs
 zip_length R [] [] z = refl
 zip_length R [] (y ∷ ys) z = absurd z
 zip_length R (x ∷ xs) [] z = absurd z
 zip_length R (x ∷ xs) (y ∷ ys) z = ap suc (zip_length R xs ys z.1)
 
-choice_length : (st : Setting) (atoms : List Value) (i : Instance) (hd : Head) (hs : List Group) → AreChoiceGroups st atoms i hd hs → length hs ≡ choice_groups hd
+pub choice_length : (st : Setting) (atoms : List Value) (i : Instance) (hd : Head) (hs : List Group) → AreChoiceGroups st atoms i hd hs → length hs ≡ choice_groups hd
 choice_length st atoms i (One atom) hs e = ap length e
 choice_length st atoms i (Choice None es None) hs e = ap length e
 choice_length st atoms i (Choice (Some l) es r) hs (h, e, a) = ap length e
@@ -97,7 +97,7 @@ module _ (st : Setting) (g g' : Parts) (atoms : List Value) where
         ap (λ k. k + groups_of found) (same_count i j h) ∙ ap (λ k. groups_count j + k) cnt,
       )
 
-groups_are : (groups hs : List Group) → StandFrom groups 1 hs → length groups ≡ length hs → hs ≡ groups
+pub groups_are : (groups hs : List Group) → StandFrom groups 1 hs → length groups ≡ length hs → hs ≡ groups
 groups_are groups hs s e = lists_same hs groups e (λ j h at. let q : 1 + j ≡ suc j = omega arith in subst (λ n. numbered groups n ≡ Some h) q (stand_at groups 1 hs s j h at))
 
 -- ---- rules

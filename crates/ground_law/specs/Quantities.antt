@@ -1,5 +1,5 @@
 -- The quantities of the limits, as sets.
-use Rattle.std.specs.Prelude.{◌≡◌, ◌⊎◌, ℕ, ℤ, Bool, List, Contains, slice_get, Option, Some, None, IsTrue}
+use Rattle.std.specs.Prelude.{◌≡◌, ◌≤◌, ◌⊎◌, ℕ, ℤ, Bool, List, Contains, slice_get, Option, Some, None, IsTrue}
 use Rattle.ap_syntax.specs.declared.terms.Rel.{Rel}
 use Rattle.ap_term.specs.Value.{Value, Values}
 use Rattle.rule_form.specs.Instances.{Instance, GuardedAggregate, GuardedHolds, IsInstance}
@@ -14,6 +14,10 @@ use Rattle.rule_form.specs.Trees as trees
 use Rattle.rule_form.specs.Truth.{compares}
 use Rattle.rule_form.specs.Values.{Substitution, IsValue}
 use Rattle.rule_form.specs.Counts.{InstanceKey, HasInstance}
+use Rattle.ground_form.specs.Ranges.{weight_size}
+use Rattle.ground_form.specs.Programs.{Parts}
+use Rattle.ground_form.specs.declared.groups.GroupRow.{GroupRow}
+use Rattle.ground_form.specs.declared.groups.Group.{Group}
 
 -- ---- pairs of a tuple and a condition
 
@@ -56,3 +60,8 @@ IsAggregatePair setting atoms i p = (j : ℕ) × (u : GuardedAggregate) × (p.gr
 abbrev pub IsPair : Setting → (Aggregate → Bool) → List Value → Pair → Type 0
 IsPair setting assigned atoms p = HasInstance (λ i. IsInstance setting.rules i × IsTried setting assigned i
     × (IsChoicePair setting atoms i i.rule.head p ⊎ IsAggregatePair setting atoms i p)) p.key
+
+-- each tuple adds an integer of the values' range to the sum of its group
+abbrev pub HasSmallWeights : Parts → Type 0
+HasSmallWeights g =
+    (h : Group) (row : GroupRow) → Contains g.groups h → Contains h.rows row → weight_size row.weight ≤ 2147483647

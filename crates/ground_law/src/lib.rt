@@ -4,17 +4,20 @@
 //! and `ground_form`.
 #![tactic(auto)]
 
-ghost use Rattle.std.specs.Prelude.{◌≡◌, ◌↔◌, ℕ, Bool, List, All, IsTrue};
-ghost use Rattle.ap_term.specs.Table.{IsIdOf, HasDistinctValues};
+ghost use Rattle.std.specs.Prelude.{◌≡◌, ◌↔◌, ℕ, Bool, List, map, All, IsTrue};
+ghost use Rattle.ap_term.specs.Table.{IsIdOf, HasDistinctValues, value_at};
 ghost use Rattle.ap_term.specs.Value.{Value};
 ghost use Rattle.ground_form.specs.AnswerSets.{IsAnswerSetWith};
 ghost use Rattle.ground_form.specs.Programs.{Parts};
+ghost use Rattle.ground_form.specs.Ranges.{IsInRange};
 ghost use Rattle.ground_law.specs.Ground.{IsGrounding};
 ghost use Rattle.ground_law.specs.Facts.{AreFactNumbers, IsGiven, IsSetOf};
 ghost use Rattle.ground_law.specs.Numbers.{numbers, atoms_at};
 ghost use Rattle.ground_law.specs.Program.{IsGroundProgram};
+ghost use Rattle.ground_law.specs.Quantities.{IsPair, HasSmallWeights};
 ghost use Rattle.rule_form.specs.AnswerSets.{IsAnswerSet};
 ghost use Rattle.rule_form.specs.Assigned.{IsAnswerSetBy};
+ghost use Rattle.rule_form.specs.Counts.{MoreThan};
 ghost use Rattle.rule_form.specs.Instances.{Instance};
 ghost use Rattle.rule_form.specs.Possible.{Setting, IsCertain};
 ghost use Rattle.rule_form.specs.Static.{AreStatic};
@@ -38,8 +41,8 @@ pub fn grounding_keeps_answers()
         AreStatic setting (λ b. IsTrue (definite b)) → IsGrounding setting g atoms found → AreFactNumbers atoms facts →
         (x : AtomSet) → IsAnswerSet setting.rules (IsGiven setting atoms facts) x ↔
         (IsSetOf atoms x × IsAnswerSetWith g facts (numbers atoms x)) }
-    ensures of_atoms { (setting : Setting) (assigned : Aggregate → Bool) (definite : AtomSet) (g : Parts) (atoms : List Value)
-        (found : List (Instance × ℕ)) (facts z : ℕ → Bool) → ((a : Aggregate) → IsTrue (assigned a) → IsTrue (setting.evaluated a)) →
+    ensures of_atoms { (setting : Setting) (definite : AtomSet) (g : Parts) (atoms : List Value)
+        (found : List (Instance × ℕ)) (facts z : ℕ → Bool) →
         AreStatic setting (λ b. IsTrue (definite b)) → IsGrounding setting g atoms found → AreFactNumbers atoms facts →
         IsAnswerSetWith g facts z → (k : ℕ) → numbers atoms (atoms_at atoms z) k ≡ z k }
 {}
@@ -48,4 +51,12 @@ pub fn grounding_keeps_answers()
 pub fn one_ground_program()
     ensures { (table : List Value) (setting : Setting) (g h : Parts) → HasDistinctValues table → All (IsIdOf table) g.atoms →
         All (IsIdOf table) h.atoms → IsGroundProgram table setting g → IsGroundProgram table setting h → g ≡ h }
+{}
+
+/// The numbers of the ground program are in range, where it has at most 1,000,000 pairs of a tuple and a condition and each
+/// tuple adds an integer of the values' range to its sum.
+pub fn ground_program_is_in_range()
+    ensures { (table : List Value) (setting : Setting) (assigned : Aggregate → Bool) (g : Parts) →
+        ((a : Aggregate) → IsTrue (assigned a) → IsTrue (setting.evaluated a)) → IsGroundProgram table setting g →
+        (MoreThan 1000000 (IsPair setting assigned (map (value_at table) g.atoms)) → ⊥) → HasSmallWeights g → IsInRange g }
 {}
