@@ -15,4 +15,5 @@ pub mod Unique
 pub mod Pairs
 pub mod One
 pub mod InRange
+pub mod Settings
 pub mod Example

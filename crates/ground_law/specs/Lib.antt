@@ -6,4 +6,5 @@ pub mod Groups
 pub mod Guards
 pub mod Ground
 pub mod Quantities
+pub mod Settings
 pub mod Program

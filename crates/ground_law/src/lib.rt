@@ -5,6 +5,7 @@
 #![tactic(auto)]
 
 ghost use Rattle.std.specs.Prelude.{◌≡◌, ◌↔◌, ℕ, Bool, List, map, All, IsTrue};
+ghost use Rattle.ap_syntax.specs.declared.rules.Rule.{Rule};
 ghost use Rattle.ap_term.specs.Table.{IsIdOf, HasDistinctValues, value_at};
 ghost use Rattle.ap_term.specs.Value.{Value};
 ghost use Rattle.ground_form.specs.AnswerSets.{IsAnswerSetWith};
@@ -15,6 +16,10 @@ ghost use Rattle.ground_law.specs.Facts.{AreFactNumbers, IsGiven, IsSetOf};
 ghost use Rattle.ground_law.specs.Numbers.{numbers, atoms_at};
 ghost use Rattle.ground_law.specs.Program.{IsGroundProgram};
 ghost use Rattle.ground_law.specs.Quantities.{IsPair, HasSmallWeights};
+ghost use Rattle.ground_law.specs.Settings.{setting_of, is_among, TellsDefinite, AreConditionsDefinite, AreInputsOpen};
+ghost use Rattle.pred_graph.specs.Components.{IsOrderOf};
+ghost use Rattle.pred_graph.specs.declared.pred.Pred.{Pred};
+ghost use Rattle.rule_form.specs.Predicates.{predicate_of};
 ghost use Rattle.rule_form.specs.AnswerSets.{IsAnswerSet};
 ghost use Rattle.rule_form.specs.Assigned.{IsAnswerSetBy};
 ghost use Rattle.rule_form.specs.Counts.{MoreThan};
@@ -59,4 +64,13 @@ pub fn ground_program_is_in_range()
     ensures { (table : List Value) (setting : Setting) (assigned : Aggregate → Bool) (g : Parts) →
         ((a : Aggregate) → IsTrue (assigned a) → IsTrue (setting.evaluated a)) → IsGroundProgram table setting g →
         (MoreThan 1000000 (IsPair setting assigned (map (value_at table) g.atoms)) → ⊥) → HasSmallWeights g → IsInRange g }
+{}
+
+/// The setting of a grounder's arguments meets what the other laws ask of static conditions, where numbers and definite
+/// predicates are those of the rules, conditions of conditional literals have definite predicates alone and no input has one.
+pub fn setting_is_static()
+    ensures { (rules : List Rule) (number : Pred → ℕ) (base : Bool) (definite : Pred → Bool) (certain inputs : List Value) →
+        IsOrderOf rules number → TellsDefinite rules base definite → AreConditionsDefinite rules definite →
+        AreInputsOpen definite inputs →
+        AreStatic (setting_of rules number definite certain inputs) (λ a. IsTrue (is_among definite (predicate_of a))) }
 {}
