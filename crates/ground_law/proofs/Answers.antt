@@ -13,7 +13,7 @@ use Rattle.ground_law.specs.Literals.{IsAtomNumber}
 use Rattle.ground_law.specs.Numbers.{at_value, numbers, atoms_at}
 use Rattle.ground_law.proofs.Derives.{GroundDerivesAt, to_ground, from_ground}
 use Rattle.ground_law.proofs.Literals.{and_true}
-use Rattle.ground_law.proofs.Lookup.{number_of, at_number, body_is, kept_some}
+use Rattle.ground_law.proofs.Lookup.{number_of, body_is, kept_some}
 use Rattle.ground_law.proofs.Permits.{permits_to, permits_from}
 use Rattle.ground_law.proofs.Values.{apart_by_order, one_number, in_values, values_in, numbers_of_values, number_true}
 use Rattle.ground_form.specs.AnswerSets.{IsClosedWith, IsAnswerSetWith}
@@ -23,11 +23,11 @@ use Rattle.ground_form.specs.declared.rules.GroundRule.{GroundRule}
 use Rattle.ground_form.specs.declared.rules.Head.{Head}
 use Rattle.ground_form.specs.declared.rules.Head.TheVariants as heads
 use Rattle.ground_form.specs.Obedience.{literal_by, obliges, Obeys}
-use Rattle.ground_form.specs.Programs.{Parts, numbered}
+use Rattle.ground_form.specs.Programs.{Parts}
 use Rattle.ground_form.specs.Truth.{aggregates_true, literals_of}
 use Rattle.ground_law.proofs.Derived.{same_answers}
 use Rattle.ground_law.specs.Grounds.{GroundDerives, GroundPermits}
-use Rattle.rule_form.specs.AnswerSets.{IsSubset, IsClosed, IsStable, HeadHas}
+use Rattle.rule_form.specs.AnswerSets.{IsClosed, IsStable, HeadHas}
 use Rattle.rule_form.specs.Assigned.{AggregateTrueBy, DerivesBy, PermitsBy, IsAnswerSetBy}
 use Rattle.rule_form.specs.Globals.{global_variables}
 use Rattle.rule_form.specs.Possible.{Setting, level, IsPossible, IsCertain}
@@ -41,6 +41,9 @@ use Rattle.rule_form.proofs.Literals.{Carries, item_moves, condition_moves}
 use Rattle.rule_form.proofs.Totals.{Apart}
 use Rattle.rule_form.proofs.Unfolds.{here, there}
 use Rattle.rule_form.proofs.Plain.{left_true, right_true, some_same, none_some}
+use Rattle.sets.specs.Sets.{IsSubset}
+use Rattle.sets.specs.Lists.{numbered}
+use Rattle.sets.proofs.ListLemmas.{numbered_in}
 
 -- ---- truth grows with the set in which positive literals are read
 
@@ -133,13 +136,13 @@ module _ (assigned : Aggregate → Bool) (st : Setting) (judges : (g : Aggregate
   possible = atoms_at atoms (λ k. true)
 
   is_possible : (a : Value) → IsTrue (possible a) → IsPossible st a
-  is_possible a t = let (k, num, h) = in_values atoms (λ k. true) a t in (grounding.possible a).0 (at_number atoms k a num)
+  is_possible a t = let (k, num, h) = in_values atoms (λ k. true) a t in (grounding.possible a).0 (numbered_in atoms k a num)
 
   possible_is : (a : Value) → IsPossible st a → IsTrue (possible a)
   possible_is a p = let (k, num) = number_of atoms a ((grounding.possible a).1 p) in values_in atoms (λ k. true) a k num refl
 
   numbered_possible : (k : ℕ) (a : Value) → IsAtomNumber atoms k a → IsPossible st a
-  numbered_possible k a num = (grounding.possible a).0 (at_number atoms k a num)
+  numbered_possible k a num = (grounding.possible a).0 (numbered_in atoms k a num)
 
   given_possible : (a : Value) → Contains st.certain a → IsPossible st a
   given_possible a c = inl c

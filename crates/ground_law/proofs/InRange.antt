@@ -1,6 +1,6 @@
 -- The numbers of a ground program are in range.
 use Rattle.std.proofs.Common.{◌≡◌, ◌+◌, ◌<◌, ◌≤◌, ℕ, zero, suc, Bool, true, false, ◌&&◌, List, [], ◌∷◌, ◌++◌, map, length, Contains, All, AllPairs, IsTrue, refl, sym, subst, ap, ◌∙◌, ⊎_elim, inl, inr, arith, get_or, Option, Some, None}
-use Rattle.std.specs.Prelude.{nat_lt, ℤ, pos, negsuc, neg_ℤ, ◌≤ℤ◌, slice_get, is_some, IfSome, IsSomeAnd, sum_by}
+use Rattle.std.specs.Prelude.{nat_lt, ℤ, pos, negsuc, neg_ℤ, ◌≤ℤ◌, is_some, IfSome, IsSomeAnd, sum_by}
 use Rattle.std.specs.List.{AllZip, AllByRecursion}
 use Rattle.std.specs.Ordering.{is_lt}
 use Rattle.std.proofs.lemmas.Bool.{false≢true}
@@ -24,8 +24,8 @@ use Rattle.ground_form.specs.declared.groups.GroupGuard.TheVariants.{Compare, Fi
 use Rattle.ground_form.specs.declared.groups.GroupRow.{GroupRow}
 use Rattle.ground_form.specs.declared.rules.GroundRule.{GroundRule}
 use Rattle.ground_form.specs.declared.rules.Head.TheVariants as heads
-use Rattle.ground_form.specs.Programs.{Parts, numbered}
-use Rattle.ground_form.specs.Ranges.{IsNumberOf, IsLiteralOf, IsHeadOf, IsRuleOf, has_guard, IsGuardUseOf, IsBodyOf, IsRowOf, IsGuardNumber, weight_size, IsGroupOf, IsInRange}
+use Rattle.ground_form.specs.Programs.{Parts}
+use Rattle.ground_form.specs.Ranges.{IsLiteralOf, IsHeadOf, IsRuleOf, has_guard, IsGuardUseOf, IsBodyOf, IsRowOf, IsGuardNumber, weight_size, IsGroupOf, IsInRange}
 use Rattle.ground_law.specs.Ground.{IsLowest, IsBelowAtom, IsAggregateGroup, AreChoiceGroups, StandFrom, IsGroundBody, IsGuardRule, IsHeadRule, HasGroups, extras_of, IsGrounding}
 use Rattle.ground_law.specs.Groups.{same_rel, turned_rel, guard_of, left_guard, right_guard, OfAggregate, OfChoice, IsTupleRow, IsGroundGroup}
 use Rattle.ground_law.specs.Guards.{Extras, no_extras, joined, guard_extra, negated_extras, group_extras, extras_from, body_of}
@@ -45,9 +45,11 @@ use Rattle.rule_form.specs.Trees as trees
 use Rattle.rule_form.specs.Truth.{IsOfRange, compares}
 use Rattle.rule_form.specs.Values.{Substitution}
 use Rattle.rule_form.proofs.Lists.{apart_back, in_append}
-use Rattle.rule_form.proofs.Plain.{some_same, none_some}
+use Rattle.rule_form.proofs.Plain.{some_same}
 use Rattle.rule_form.proofs.Totals.{Apart, apart}
 use Rattle.rule_form.proofs.Unfolds.{here, there, first_or_rest, nothing_in}
+use Rattle.sets.specs.Lists.{numbered, IsNumberOf}
+use Rattle.sets.proofs.ListLemmas.{numbered_within}
 
 -- ---- numbers of lists
 
@@ -58,21 +60,12 @@ map_length : {X Y : Type 0} (f : X → Y) (xs : List X) → length (map f xs) �
 map_length f [] = refl
 map_length f (x ∷ xs) = ap suc (map_length f xs)
 
-place_below : {X : Type 0} (xs : List X) (k : ℕ) (b : X) → slice_get xs k ≡ Some b → k < length xs
-place_below [] k b e = absurd (none_some b e)
-place_below (x ∷ xs) zero b e = omega arith
-place_below (x ∷ xs) (suc k) b e = omega (arith, place_below xs k b e)
-
-is_number : {X : Type 0} (xs : List X) (k : ℕ) (b : X) → numbered xs k ≡ Some b → IsNumberOf (length xs) k
-is_number xs zero b e = absurd (none_some b e)
-is_number xs (suc k) b e = let lt : k < length xs = place_below xs k b e in (omega arith, omega (arith, lt))
-
 literals_of : (atoms : List Value) (asked barred : Value → Type 0) (cs : List ℤ) → AreGroundLiterals atoms asked barred cs → All (IsLiteralOf (length atoms)) cs
 literals_of atoms asked barred cs are = all_of (IsLiteralOf (length atoms)) cs by
   where
     by : (c : ℤ) → Contains cs c → IsLiteralOf (length atoms) c
-    by (pos k) m = let (b, is, n) = (are.positive k).0 m in is_number atoms k b n
-    by (negsuc k) m = let (b, is, n) = (are.negative k).0 m in is_number atoms (suc k) b n
+    by (pos k) m = let (b, is, n) = (are.positive k).0 m in numbered_within atoms k b n
+    by (negsuc k) m = let (b, is, n) = (are.negative k).0 m in numbered_within atoms (suc k) b n
 
 -- ---- the literals over guards of a body
 
@@ -137,14 +130,14 @@ module _ (st : Setting) (g : Parts) (atoms : List Value) (found : List Instance)
     guard_fine (h ∷ hs) s r (inr (t, (e, b))) = constraint (guard_extra false f.1 1 h.right) (guard_uses g.groups false f.1 1 h s.0 h.right (λ u. u)) r e _ _ b
 
     head_fine : (hd : Head) (r : GroundRule) → IsHeadRule st g atoms f.0 (extras_of st g atoms f.0 f.1 q) f.1 q.choice hd r → IsFine r
-    head_fine (One atom) r (a, e, (n, num, h, b)) = (subst (IsHeadOf (length atoms)) (sym h) (is_number atoms n a num), body_fine _ _ (extras_of st g atoms f.0 f.1 q) own_uses r b)
-    head_fine (Choice left es right) r (inl (a, qs, ms, is, (n, num, h, b))) = (subst (IsHeadOf (length atoms)) (sym h) (is_number atoms n a num), body_fine _ _ (extras_of st g atoms f.0 f.1 q) own_uses r b)
+    head_fine (One atom) r (a, e, (n, num, h, b)) = (subst (IsHeadOf (length atoms)) (sym h) (numbered_within atoms n a num), body_fine _ _ (extras_of st g atoms f.0 f.1 q) own_uses r b)
+    head_fine (Choice left es right) r (inl (a, qs, ms, is, (n, num, h, b))) = (subst (IsHeadOf (length atoms)) (sym h) (numbered_within atoms n a num), body_fine _ _ (extras_of st g atoms f.0 f.1 q) own_uses r b)
     head_fine (Choice left es right) r (inr h) = guard_fine q.choice (stand_left g.groups f.1 q.choice q.own q.stand) r h
     head_fine Nothing r (h, b) = constraint no_extras tt r h _ _ b
 
   rule_fine : (r : GroundRule) → Contains g.rules r → IsFine r
   rule_fine r m = ⊎_elim
-      (λ (a, c, (n, num, h, b)). (subst (IsHeadOf (length atoms)) (sym h) (is_number atoms n a num), (body_of [] no_extras, b, record { lits = all_of (IsLiteralOf (length atoms)) [] (λ d n. absurd (nothing_in d n)); guards = all_of (IsGuardUseOf g.groups) [] (λ d n. absurd (nothing_in d n)) })))
+      (λ (a, c, (n, num, h, b)). (subst (IsHeadOf (length atoms)) (sym h) (numbered_within atoms n a num), (body_of [] no_extras, b, record { lits = all_of (IsLiteralOf (length atoms)) [] (λ d n. absurd (nothing_in d n)); guards = all_of (IsGuardUseOf g.groups) [] (λ d n. absurd (nothing_in d n)) })))
       (λ (f, c, h). head_fine f c f.0.rule.head r h) (p.sound r m)
 
 -- ---- groups
@@ -244,7 +237,7 @@ module _ (st : Setting) (assigned : Aggregate → Bool) (judges : (a : Aggregate
     key_of = record { place = i.place; outer = i.outer }
 
     tried : IsTried st assigned i
-    tried = record { asked = relevant.asked; barred = relevant.barred; compared = relevant.compared; values = λ u c a. relevant.evaluated u c (judges u.aggregate a) }
+    tried = record { asked = relevant.asked; barred = relevant.barred; compared = relevant.compared; evaluated = λ u c a. relevant.evaluated u c (judges u.aggregate a) }
 
     only : (hs : List Group) (k h : Group) → hs ≡ k ∷ [] → Contains hs h → k ≡ h
     only hs k h e m = ⊎_elim (λ s. s) (λ r. absurd (nothing_in h r)) (first_or_rest k [] h (subst (λ xs. Contains xs h) e m))
@@ -326,12 +319,12 @@ in_range table st assigned judges g p few small =
     let same : hs ≡ g.groups = groups_are g.groups hs s (p.all_groups ∙ sym len) in record {
       atoms = λ i j d lt below e. not_before (value_at table (get_or g.atoms i d)) (subst (λ v. IsTrue (is_lt (value_cmp (value_at table (get_or g.atoms i d)) v))) (ap (value_at table) (sym (one_id (get_or g.atoms i d) (get_or g.atoms j d) e)))
           (before (value_at table) (λ v w. IsTrue (is_lt (value_cmp v w))) g.atoms p.grounding.ordered i j d lt below));
-      rules = subst (λ n. All (IsRuleOf n (length g.bodies)) g.rules) size (all_of (IsRuleOf (length atoms) (length g.bodies)) g.rules (λ r m. let (h, (b, at, is)) = fine r m in record { head = h; body = is_number g.bodies r.body.0 b at }));
+      rules = subst (λ n. All (IsRuleOf n (length g.bodies)) g.rules) size (all_of (IsRuleOf (length atoms) (length g.bodies)) g.rules (λ r m. let (h, (b, at, is)) = fine r m in record { head = h; body = numbered_within g.bodies r.body.0 b at }));
       bodies = subst (λ n. All (IsBodyOf n g.groups) g.bodies) size (all_of (IsBodyOf (length atoms) g.groups) g.bodies (λ b m.
           let (k, at) = number_of g.bodies b m in
           let (r, among, e) = p.bodies_used k b at in
           let (h, (c, at', is)) = fine r among in
           subst (IsBodyOf (length atoms) g.groups) (some_same c b (sym at' ∙ (ap (numbered g.bodies) e ∙ at))) is));
       groups = subst (λ n. All (IsGroupOf n) g.groups) size (all_of (IsGroupOf (length atoms)) g.groups (λ h m. all h (subst (λ xs. Contains xs h) (sym same) m) m));
-      inputs = all_of (λ (a : AtomId). IsNumberOf (length g.atoms) a.0) g.inputs (λ a m. let (v, inside, at) = (p.inputs a).0 m in subst (λ n. IsNumberOf n a.0) size (is_number atoms a.0 v at));
+      inputs = all_of (λ (a : AtomId). IsNumberOf (length g.atoms) a.0) g.inputs (λ a m. let (v, inside, at) = (p.inputs a).0 m in subst (λ n. IsNumberOf n a.0) size (numbered_within atoms a.0 v at));
     }

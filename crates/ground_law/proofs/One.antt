@@ -19,7 +19,7 @@ use Rattle.ground_law.specs.Literals.{IsAtomNumber}
 use Rattle.ground_law.specs.Program.{instance_cmp, choice_groups, groups_count, placed_from, groups_of, body_keys, body_cmp, head_key, rule_cmp, IsGroundProgram}
 use Rattle.rule_form.specs.Relevant.{IsAsked, IsBarred}
 use Rattle.rule_form.proofs.Instances.{same_head, same_tail}
-use Rattle.ground_law.proofs.Lookup.{number_of, at_number, at_place}
+use Rattle.ground_law.proofs.Lookup.{number_of, at_place}
 use Rattle.ground_law.proofs.Pairs.{same_back, found_zip, placed_zip, zip_in, same_count, IsSamePlaced, choice_is, own_is, agrees_to}
 use Rattle.ground_law.proofs.Same.{asked_back, barred_back}
 use Rattle.ground_law.proofs.Unique.{turned_less, less, through, one_list, one_atoms, one_literals}
@@ -29,13 +29,15 @@ use Rattle.ground_form.specs.declared.bodies.Body.{Body}
 use Rattle.ground_form.specs.declared.groups.Group.{Group}
 use Rattle.ground_form.specs.declared.rules.GroundRule.{GroundRule}
 use Rattle.ground_form.specs.declared.rules.Head.TheVariants as heads
-use Rattle.ground_form.specs.Programs.{Parts, numbered}
+use Rattle.ground_form.specs.Programs.{Parts}
 use Rattle.rule_form.specs.Possible.{Setting}
 use Rattle.rule_form.specs.Trees.{Head, One, Choice, Nothing, Rule}
 use Rattle.rule_form.proofs.Totals.{Apart, apart}
 use Rattle.rule_form.proofs.Unfolds.{here, there}
 use Rattle.rule_form.proofs.Plain.{some_same, none_some}
 use Rattle.rule_form.specs.Instances.{IsSame}
+use Rattle.sets.specs.Lists.{numbered}
+use Rattle.sets.proofs.ListLemmas.{numbered_in}
 
 -- ---- groups
 
@@ -183,7 +185,7 @@ module _ (st : Setting) (g g' : Parts) (atoms : List Value) (found found' : List
   bodies_in used b m =
       let (k, at) = number_of g.bodies b m in let (r, mr, rk) = used k b at in let (s, (b', at', at''), ms, hd) = has_like r mr in
       let e : b' ≡ b = some_same b' b (sym at' ∙ (ap (numbered g.bodies) rk ∙ at)) in
-      subst (Contains g'.bodies) e (at_number g'.bodies s.body.0 b' at'')
+      subst (Contains g'.bodies) e (numbered_in g'.bodies s.body.0 b' at'')
 
 -- ---- one of them
 

@@ -14,7 +14,6 @@ use Rattle.ground_law.specs.Ground.{IsAggregateGroup, IsLowest, StandFrom}
 use Rattle.ground_law.proofs.Guards.{extras_true, joined_true, group_is, left_is, right_is}
 use Rattle.ground_law.proofs.Rows.{IsTuple, IsTally, one_tally, group_tally}
 use Rattle.ground_form.specs.declared.groups.Group.{Group}
-use Rattle.ground_form.specs.Programs.{numbered}
 use Rattle.ground_form.specs.Truth.{rows_sum, guard_holds_if_there}
 use Rattle.rule_form.specs.Globals.{global_variables}
 use Rattle.rule_form.specs.Possible.{Setting, level, IsHeadLevel, IsPossible, IsCertain}
@@ -24,6 +23,7 @@ use Rattle.rule_form.specs.Values.{Substitution}
 use Rattle.rule_form.proofs.Conditions.{atoms_to, atoms_from}
 use Rattle.rule_form.proofs.Unfolds.{here, there, first_or_rest, nothing_in}
 use Rattle.rule_form.proofs.Plain.{left_true, right_true}
+use Rattle.sets.specs.Lists.{numbered}
 
 -- ---- what an aggregate counts, by its tuples with their atoms
 

@@ -12,10 +12,10 @@ use Rattle.ground_law.specs.Literals.{IsAtomNumber}
 use Rattle.ground_law.specs.Numbers.{at_value, numbers, atoms_from, atoms_at}
 use Rattle.ground_law.proofs.Literals.{and_true}
 use Rattle.ground_law.proofs.Lookup.{at_place}
-use Rattle.ground_form.specs.Programs.{numbered}
 use Rattle.rule_form.specs.Truth.{AtomSet}
 use Rattle.rule_form.proofs.Totals.{Apart, apart}
 use Rattle.rule_form.proofs.Plain.{left_true, right_true, some_same, none_some}
+use Rattle.sets.specs.Lists.{numbered}
 
 by_equal : (a b : Value) (o : Ordering) → value_cmp a b ≡ o → IsTrue (is_eq o) → a ≡ b
 by_equal a b Equal e h = value_same a b e

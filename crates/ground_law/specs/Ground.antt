@@ -13,13 +13,14 @@ use Rattle.rule_form.specs.Relevant.{IsAsked, IsBarred, IsRelevant}
 use Rattle.ground_form.specs.declared.groups.Group.{Group}
 use Rattle.ground_form.specs.declared.rules.GroundRule.{GroundRule}
 use Rattle.ground_form.specs.declared.rules.Head.TheVariants as heads
-use Rattle.ground_form.specs.Programs.{Parts, numbered}
+use Rattle.ground_form.specs.Programs.{Parts}
 use Rattle.rule_form.specs.Globals.{Agrees, global_variables}
 use Rattle.rule_form.specs.Instances.{AreConditionAtoms}
 use Rattle.rule_form.specs.Possible.{Setting, level, IsHeadLevel, IsPossible}
 use Rattle.rule_form.specs.Trees.{Guard, Choosable, One, Choice, Nothing, Rule}
 use Rattle.rule_form.specs.Trees as trees
 use Rattle.rule_form.specs.Values.{Substitution, IsAtom}
+use Rattle.sets.specs.Lists.{numbered}
 
 -- ---- the groups of an instance
 

@@ -15,9 +15,10 @@ use Rattle.ground_form.specs.declared.bodies.GuardUse.{GuardUse}
 use Rattle.ground_form.specs.declared.rules.GroundRule.{GroundRule}
 use Rattle.ground_form.specs.declared.rules.Head.{Head}
 use Rattle.ground_form.specs.declared.rules.Head.TheVariants.{One, Choice, Nothing}
-use Rattle.ground_form.specs.Programs.{Parts, numbered}
+use Rattle.ground_form.specs.Programs.{Parts}
 use Rattle.rule_form.specs.Possible.{Setting}
 use Rattle.rule_form.specs.Trees as trees
+use Rattle.sets.specs.Lists.{numbered}
 
 -- ---- the order of instances, and where their groups begin
 

@@ -1,18 +1,14 @@
 -- The quantities of the limits, as sets.
-use Rattle.std.specs.Prelude.{◌≡◌, ◌≤◌, ◌⊎◌, ℕ, ℤ, Bool, List, Contains, slice_get, Option, Some, None, IsTrue}
-use Rattle.ap_syntax.specs.declared.terms.Rel.{Rel}
+use Rattle.std.specs.Prelude.{◌≡◌, ◌≤◌, ◌⊎◌, ℕ, ℤ, Bool, List, Contains, slice_get, Option, Some, None}
 use Rattle.ap_term.specs.Value.{Value, Values}
-use Rattle.rule_form.specs.Instances.{Instance, GuardedAggregate, GuardedHolds, IsInstance}
+use Rattle.rule_form.specs.Instances.{Instance, GuardedAggregate, IsInstance}
 use Rattle.ground_law.specs.Ground.{IsLowest, IsBelowAtom}
 use Rattle.ground_law.specs.Groups.{OfAggregate, OfChoice}
 use Rattle.ground_law.specs.Literals.{AreGroundLiterals, Exists}
-use Rattle.rule_form.specs.Relevant.{IsAsked, IsBarred, IsUncertain, MayApply, Stands}
+use Rattle.rule_form.specs.Relevant.{IsRelevantBy}
 use Rattle.rule_form.specs.Globals.{global_variables}
-use Rattle.rule_form.specs.Possible.{Setting, IsPossible, IsCertain}
-use Rattle.rule_form.specs.Trees.{Guard, Aggregate, Compare, Choosable, Head, One, Choice, Nothing, Rule}
-use Rattle.rule_form.specs.Trees as trees
-use Rattle.rule_form.specs.Truth.{compares}
-use Rattle.rule_form.specs.Values.{Substitution, IsValue}
+use Rattle.rule_form.specs.Possible.{Setting}
+use Rattle.rule_form.specs.Trees.{Guard, Aggregate, Head, One, Choice, Nothing}
 use Rattle.rule_form.specs.Counts.{InstanceKey, HasInstance}
 use Rattle.ground_form.specs.Ranges.{weight_size}
 use Rattle.ground_form.specs.Programs.{Parts}
@@ -21,15 +17,9 @@ use Rattle.ground_form.specs.declared.groups.Group.{Group}
 
 -- ---- pairs of a tuple and a condition
 
--- what an instance is before its aggregates over definite predicates are looked at, but for assignment aggregates: an instance has the
--- values of these
-pub record IsTried (setting : Setting) (assigned : Aggregate → Bool) (i : Instance) : Type 0 where
-  pub asked : (b : Value) → IsAsked setting i b → IsPossible setting b
-  pub barred : MayApply setting i.rule.head (IsBarred setting i)
-  pub compared : (u : Substitution) (l : trees.Term) (rel : Rel) (r : trees.Term) (v w : Value)
-      → Stands setting i u (Compare l rel r) → IsValue u l v → IsValue u r w → IsTrue (compares rel v w)
-  pub values : (u : GuardedAggregate) → Contains i.aggregates u → IsTrue (assigned u.aggregate)
-      → GuardedHolds (global_variables i.rule) (IsCertain setting) (IsUncertain setting) i.values u
+-- An instance is looked at before its aggregates over definite predicates are, but for assignment aggregates: it has the values of these
+abbrev pub IsTried : Setting → (Aggregate → Bool) → Instance → Type 0
+IsTried setting assigned i = IsRelevantBy setting assigned i
 
 -- the group is the choice's, or that of the aggregate at this place
 pub record Pair : Type 0 where
