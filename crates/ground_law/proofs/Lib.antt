@@ -16,4 +16,5 @@ pub mod Pairs
 pub mod One
 pub mod InRange
 pub mod Settings
+pub mod Occurrences
 pub mod Example
