@@ -10,10 +10,10 @@ use Rattle.rule_form.specs.Instances.{Instance}
 use Rattle.ground_law.specs.Ground.{IsGrounding, IsGuardRule, IsHeadRule, extras_of}
 use Rattle.ground_law.specs.Guards.{no_extras}
 use Rattle.ground_law.specs.Literals.{IsAtomNumber}
-use Rattle.ground_law.specs.Numbers.{at_value, numbers, values}
+use Rattle.ground_law.specs.Numbers.{at_value, numbers, atoms_at}
 use Rattle.ground_law.proofs.Derives.{GroundDerivesAt, to_ground, from_ground}
 use Rattle.ground_law.proofs.Literals.{and_true}
-use Rattle.ground_law.proofs.Lookup.{number_of, at_number, body_is, kept_some}
+use Rattle.ground_law.proofs.Lookup.{number_of, body_is, kept_some}
 use Rattle.ground_law.proofs.Permits.{permits_to, permits_from}
 use Rattle.ground_law.proofs.Values.{apart_by_order, one_number, in_values, values_in, numbers_of_values, number_true}
 use Rattle.ground_form.specs.AnswerSets.{IsClosedWith, IsAnswerSetWith}
@@ -23,11 +23,11 @@ use Rattle.ground_form.specs.declared.rules.GroundRule.{GroundRule}
 use Rattle.ground_form.specs.declared.rules.Head.{Head}
 use Rattle.ground_form.specs.declared.rules.Head.TheVariants as heads
 use Rattle.ground_form.specs.Obedience.{literal_by, obliges, Obeys}
-use Rattle.ground_form.specs.Programs.{Parts, numbered}
+use Rattle.ground_form.specs.Programs.{Parts}
 use Rattle.ground_form.specs.Truth.{aggregates_true, literals_of}
 use Rattle.ground_law.proofs.Derived.{same_answers}
 use Rattle.ground_law.specs.Grounds.{GroundDerives, GroundPermits}
-use Rattle.rule_form.specs.AnswerSets.{IsSubset, IsClosed, IsStable, HeadHas}
+use Rattle.rule_form.specs.AnswerSets.{IsClosed, IsStable, HeadHas}
 use Rattle.rule_form.specs.Assigned.{AggregateTrueBy, DerivesBy, PermitsBy, IsAnswerSetBy}
 use Rattle.rule_form.specs.Globals.{global_variables}
 use Rattle.rule_form.specs.Possible.{Setting, level, IsPossible, IsCertain}
@@ -41,6 +41,9 @@ use Rattle.rule_form.proofs.Literals.{Carries, item_moves, condition_moves}
 use Rattle.rule_form.proofs.Totals.{Apart}
 use Rattle.rule_form.proofs.Unfolds.{here, there}
 use Rattle.rule_form.proofs.Plain.{left_true, right_true, some_same, none_some}
+use Rattle.sets.specs.Sets.{IsSubset}
+use Rattle.sets.specs.Lists.{numbered}
+use Rattle.sets.proofs.ListLemmas.{numbered_in}
 
 -- ---- truth grows with the set in which positive literals are read
 
@@ -130,16 +133,16 @@ module _ (assigned : Aggregate → Bool) (st : Setting) (judges : (g : Aggregate
 
   -- the test of possible atoms
   abbrev possible : AtomSet
-  possible = values atoms (λ k. true)
+  possible = atoms_at atoms (λ k. true)
 
   is_possible : (a : Value) → IsTrue (possible a) → IsPossible st a
-  is_possible a t = let (k, num, h) = in_values atoms (λ k. true) a t in (grounding.possible a).0 (at_number atoms k a num)
+  is_possible a t = let (k, num, h) = in_values atoms (λ k. true) a t in (grounding.possible a).0 (numbered_in atoms k a num)
 
   possible_is : (a : Value) → IsPossible st a → IsTrue (possible a)
   possible_is a p = let (k, num) = number_of atoms a ((grounding.possible a).1 p) in values_in atoms (λ k. true) a k num refl
 
   numbered_possible : (k : ℕ) (a : Value) → IsAtomNumber atoms k a → IsPossible st a
-  numbered_possible k a num = (grounding.possible a).0 (at_number atoms k a num)
+  numbered_possible k a num = (grounding.possible a).0 (numbered_in atoms k a num)
 
   given_possible : (a : Value) → Contains st.certain a → IsPossible st a
   given_possible a c = inl c
@@ -212,13 +215,13 @@ module _ (assigned : Aggregate → Bool) (st : Setting) (judges : (g : Aggregate
 
   -- the set of the values of numbers that lie in x
   module _ (x : AtomSet) (w : ℕ → Bool) (sub : (k : ℕ) → IsTrue (w k) → IsTrue (numbers atoms x k)) where
-    same_numbers : numbers atoms (values atoms w) ≡ w
+    same_numbers : numbers atoms (atoms_at atoms w) ≡ w
     same_numbers = fun_ext (numbers_of_values atoms atoms_apart w (λ k t. let (b, num, xb) = number_true atoms x k (sub k t) in (b, num)))
 
-    values_within : IsSubset (values atoms w) x
+    values_within : IsSubset (atoms_at atoms w) x
     values_within a t = let (k, num, wk) = in_values atoms w a t in subst (λ o. IsTrue (at_value x o)) num (sub k wk)
 
-    values_closed : IsClosed (GroundDerives g) are_facts (numbers atoms x) w → IsClosed (GroundDerivesAt g atoms) Handed x (values atoms w)
+    values_closed : IsClosed (GroundDerives g) are_facts (numbers atoms x) w → IsClosed (GroundDerivesAt g atoms) Handed x (atoms_at atoms w)
     values_closed c = record {
       has_facts = λ a (k, num, t). values_in atoms w a k num (c.has_facts k t);
       has_heads = λ a (k, num, d). values_in atoms w a k num (c.has_heads k (subst (λ v. GroundDerives g (numbers atoms x) v k) same_numbers d));
@@ -236,7 +239,7 @@ module _ (assigned : Aggregate → Bool) (st : Setting) (judges : (g : Aggregate
       finite = (upto (suc (length atoms)), λ k t. let (b, num, xb) = number_true atoms x k t in in_upto atoms k b num);
       closed = numbers_closed x x h.closed;
       minimal = λ w sub c. λ k t. let (b, num, xb) = number_true atoms x k t in
-          let (j, num', wj) = in_values atoms w b (h.minimal (values atoms w) (values_within x w sub) (values_closed x w sub c) b xb) in
+          let (j, num', wj) = in_values atoms w b (h.minimal (atoms_at atoms w) (values_within x w sub) (values_closed x w sub c) b xb) in
           subst (λ m. IsTrue (w m)) (one_number atoms atoms_apart j k b num' num) wj;
       permitted = h.permitted;
     })
@@ -299,5 +302,5 @@ module _ (assigned : Aggregate → Bool) (st : Setting) (judges : (g : Aggregate
           (literals_grow z numbered_part z part_in (literals_of g rule.body.0) (right_true (aggregates_true g z rule.body.0) (list_all (literal_by z numbered_part) (literals_of g rule.body.0)) body)))))));
     }
 
-    pub answers_are_of_atoms : numbers atoms (values atoms z) ≡ z
+    pub answers_are_of_atoms : numbers atoms (atoms_at atoms z) ≡ z
     answers_are_of_atoms = fun_ext (numbers_of_values atoms atoms_apart z (λ k t. part_number k (h.minimal numbered_part part_in closed_part k t)))

@@ -21,9 +21,9 @@ use Rattle.ground_law.proofs.Uses.{uses_hold}
 use Rattle.ground_form.specs.declared.groups.Group.{Group}
 use Rattle.ground_form.specs.declared.rules.GroundRule.{GroundRule}
 use Rattle.ground_form.specs.Obedience.{literal_by, body_by, obliges}
-use Rattle.ground_form.specs.Programs.{Parts, numbered}
+use Rattle.ground_form.specs.Programs.{Parts}
 use Rattle.ground_law.specs.Grounds.{GroundDerives}
-use Rattle.rule_form.specs.AnswerSets.{HeadHas, IsSubset}
+use Rattle.rule_form.specs.AnswerSets.{HeadHas}
 use Rattle.rule_form.specs.Assigned.{BodyTrueBy, DerivesBy}
 use Rattle.rule_form.specs.Globals.{Agrees, global_variables}
 use Rattle.rule_form.specs.Possible.{Setting, level, IsHeadLevel, IsPossible, IsCertain}
@@ -36,6 +36,8 @@ use Rattle.rule_form.proofs.Bounds.{head_level}
 use Rattle.rule_form.proofs.Conditions.{atoms_to, atoms_from}
 use Rattle.rule_form.proofs.Unfolds.{there as there_in}
 use Rattle.rule_form.proofs.Plain.{left_true, right_true, some_same, none_some}
+use Rattle.sets.specs.Sets.{IsSubset}
+use Rattle.sets.specs.Lists.{numbered}
 
 -- a guard with a value
 pub guard_value : (s : Substitution) (o : Option Guard) → HasGuardValue s o → (v : Option Value) × IsGuardValue s o v

@@ -7,7 +7,7 @@ use Rattle.std.proofs.lemmas.Bool.{false≢true}
 use Rattle.std.proofs.lemmas.List.Elements.{All-from_recursion}
 use Rattle.ap_term.specs.Value.{Value, integer, constant, string, compound, none}
 use Rattle.rule_form.specs.Instances.{Instance, value_list, IsInstance, AreParts, IsHeadPart}
-use Rattle.ground_law.specs.Ground.{AreChoiceGroups, IsUseGroup, IsHeadRule, HasHeadRules, HasGroups, IsGrounding, IsDerivingRule}
+use Rattle.ground_law.specs.Ground.{AreChoiceGroups, IsAggregateGroup, IsHeadRule, HasHeadRules, HasGroups, IsGrounding, IsDerivingRule}
 use Rattle.ground_law.specs.Guards.{no_extras, extras_from, body_of}
 use Rattle.ground_law.specs.Literals.{AreGroundLiterals, IsAtomNumber}
 use Rattle.rule_form.specs.Relevant.{Stands, IsAsked, IsBarred, IsRelevant}
@@ -139,7 +139,7 @@ placed_at f e = record {
   choice = [];
   own = [];
   choice_is = subst (λ (q : Instance × ℕ). AreChoiceGroups setting (a ∷ []) q.0 q.0.rule.head []) e refl;
-  own_are = subst (λ (q : Instance × ℕ). AllZip (IsUseGroup setting (a ∷ []) q.0) q.0.aggregates []) e tt;
+  own_are = subst (λ (q : Instance × ℕ). AllZip (IsAggregateGroup setting (a ∷ []) q.0) q.0.aggregates []) e tt;
   stand = tt;
 }
 

@@ -17,11 +17,11 @@ use Rattle.ground_law.specs.Guards.{Extras, joined, guard_extra, negated_extras,
 use Rattle.ground_form.specs.declared.groups.Group.{Group}
 use Rattle.ground_form.specs.declared.groups.GroupGuard.{GroupGuard}
 use Rattle.ground_form.specs.declared.groups.GroupGuard.TheVariants.{Compare, Fixed}
-use Rattle.ground_form.specs.Programs.{numbered}
 use Rattle.ground_form.specs.Truth as ground
 use Rattle.ground_form.specs.Truth.{rows_sum, guard_holds, guard_holds_if_there, guard_true, group_true_if_there}
 use Rattle.rule_form.specs.Trees.{Guard}
 use Rattle.rule_form.specs.Truth.{compares}
+use Rattle.sets.specs.Lists.{numbered}
 
 -- ---- relations of integers
 

@@ -14,4 +14,7 @@ pub mod Answers
 pub mod Unique
 pub mod Pairs
 pub mod One
+pub mod InRange
+pub mod Settings
+pub mod Occurrences
 pub mod Example

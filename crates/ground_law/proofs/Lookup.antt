@@ -1,5 +1,5 @@
 -- Numbers of members of a list, and groups that stand in a list.
-use Rattle.std.proofs.Common.{◌≡◌, ℕ, zero, suc, ◌+◌, Bool, true, false, ◌&&◌, List, [], ◌∷◌, ◌++◌, length, Contains, IsTrue, refl, subst, ap, ⊎_elim, Option, Some, None, arith}
+use Rattle.std.proofs.Common.{◌≡◌, ℕ, zero, suc, ◌+◌, Bool, true, false, ◌&&◌, List, [], ◌∷◌, ◌++◌, length, Contains, IsTrue, refl, subst, ap, ⊎_elim, Some, arith}
 use Rattle.std.specs.Prelude.{ℤ, slice_get}
 use Rattle.std.specs.Bool.{then_some}
 use Rattle.std.specs.List.{list_all}
@@ -8,10 +8,11 @@ use Rattle.ground_law.specs.Guards.{Extras, body_of}
 use Rattle.ground_law.proofs.Guards.{extras_true}
 use Rattle.ground_form.specs.declared.groups.Group.{Group}
 use Rattle.ground_form.specs.Obedience.{literal_by, body_by}
-use Rattle.ground_form.specs.Programs.{Parts, numbered}
+use Rattle.ground_form.specs.Programs.{Parts}
 use Rattle.ground_form.specs.Truth.{guards_in, literals_in, body_true, literals_true}
 use Rattle.rule_form.proofs.Unfolds.{here, there, first_or_rest, nothing_in}
 use Rattle.rule_form.proofs.Plain.{some_same, none_some}
+use Rattle.sets.specs.Lists.{numbered}
 
 pub place_of : {X : Type 0} (xs : List X) (b : X) → Contains xs b → (k : ℕ) × (slice_get xs k ≡ Some b)
 place_of [] b m = absurd (nothing_in b m)
@@ -24,10 +25,6 @@ at_place (x ∷ xs) (suc k) b e = there x xs b (at_place xs k b e)
 
 pub number_of : {X : Type 0} (xs : List X) (b : X) → Contains xs b → (k : ℕ) × (numbered xs k ≡ Some b)
 number_of xs b m = let (k, e) = place_of xs b m in (suc k, e)
-
-pub at_number : {X : Type 0} (xs : List X) (k : ℕ) (b : X) → numbered xs k ≡ Some b → Contains xs b
-at_number xs zero b e = absurd (none_some b e)
-at_number xs (suc k) b e = at_place xs k b e
 
 pub stand_left : (groups : List Group) (k : ℕ) (xs ys : List Group) → StandFrom groups k (xs ++ ys) → StandFrom groups k xs
 stand_left groups k [] ys h = tt

@@ -13,13 +13,13 @@ use Rattle.ap_term.specs.declared.shape.TermId.{TermId}
 use Rattle.ap_term.specs.Table.{IsIdOf, value_at, HasDistinctValues}
 use Rattle.ap_term.specs.Value.{Value}
 use Rattle.rule_form.specs.Instances.{Instance}
-use Rattle.ground_law.specs.Ground.{IsUseGroup, AreChoiceGroups, StandFrom, IsGroundBody, IsGuardRule, IsHeadRule, HasGuardRules, HasHeadRules, HasGroups, extras_of, IsGrounding}
+use Rattle.ground_law.specs.Ground.{IsAggregateGroup, AreChoiceGroups, StandFrom, IsGroundBody, IsGuardRule, IsHeadRule, HasGuardRules, HasHeadRules, HasGroups, extras_of, IsGrounding}
 use Rattle.ground_law.specs.Guards.{Extras, no_extras, joined, guard_extra, extras_from, body_of}
 use Rattle.ground_law.specs.Literals.{IsAtomNumber}
-use Rattle.ground_law.specs.Program.{found_cmp, choice_groups, groups_count, placed_from, groups_of, body_keys, body_cmp, head_key, rule_cmp, IsGroundProgram}
+use Rattle.ground_law.specs.Program.{instance_cmp, choice_groups, groups_count, placed_from, groups_of, body_keys, body_cmp, head_key, rule_cmp, IsGroundProgram}
 use Rattle.rule_form.specs.Relevant.{IsAsked, IsBarred}
 use Rattle.rule_form.proofs.Instances.{same_head, same_tail}
-use Rattle.ground_law.proofs.Lookup.{number_of, at_number, at_place}
+use Rattle.ground_law.proofs.Lookup.{number_of, at_place}
 use Rattle.ground_law.proofs.Pairs.{same_back, found_zip, placed_zip, zip_in, same_count, IsSamePlaced, choice_is, own_is, agrees_to}
 use Rattle.ground_law.proofs.Same.{asked_back, barred_back}
 use Rattle.ground_law.proofs.Unique.{turned_less, less, through, one_list, one_atoms, one_literals}
@@ -29,31 +29,33 @@ use Rattle.ground_form.specs.declared.bodies.Body.{Body}
 use Rattle.ground_form.specs.declared.groups.Group.{Group}
 use Rattle.ground_form.specs.declared.rules.GroundRule.{GroundRule}
 use Rattle.ground_form.specs.declared.rules.Head.TheVariants as heads
-use Rattle.ground_form.specs.Programs.{Parts, numbered}
+use Rattle.ground_form.specs.Programs.{Parts}
 use Rattle.rule_form.specs.Possible.{Setting}
 use Rattle.rule_form.specs.Trees.{Head, One, Choice, Nothing, Rule}
 use Rattle.rule_form.proofs.Totals.{Apart, apart}
 use Rattle.rule_form.proofs.Unfolds.{here, there}
 use Rattle.rule_form.proofs.Plain.{some_same, none_some}
 use Rattle.rule_form.specs.Instances.{IsSame}
+use Rattle.sets.specs.Lists.{numbered}
+use Rattle.sets.proofs.ListLemmas.{numbered_in}
 
 -- ---- groups
 
-stand_append : (groups : List Group) (k : ℕ) (xs ys : List Group) → StandFrom groups k xs → StandFrom groups (k + length xs) ys → StandFrom groups k (xs ++ ys)
+pub stand_append : (groups : List Group) (k : ℕ) (xs ys : List Group) → StandFrom groups k xs → StandFrom groups (k + length xs) ys → StandFrom groups k (xs ++ ys)
 stand_append groups k [] ys h t = let e : k + 0 ≡ k = omega arith in subst (λ n. StandFrom groups n ys) e t
 stand_append groups k (x ∷ xs) ys h t = let e : k + suc (length xs) ≡ suc k + length xs = omega arith in (h.0, stand_append groups (suc k) xs ys h.1 (subst (λ n. StandFrom groups n ys) e t))
 
-append_length : {X : Type 0} (xs ys : List X) → length (xs ++ ys) ≡ length xs + length ys
+pub append_length : {X : Type 0} (xs ys : List X) → length (xs ++ ys) ≡ length xs + length ys
 append_length [] ys = let e : length ys ≡ 0 + length ys = omega arith in e
 append_length (x ∷ xs) ys = let ih : length (xs ++ ys) ≡ length xs + length ys = append_length xs ys in let e : suc (length (xs ++ ys)) ≡ suc (length xs) + length ys = omega (arith, ih) in e
 
-zip_length : {X Y : Type 0} (R : X → Y → Type 0) (xs : List X) (ys : List Y) → AllZip R xs ys → length ys ≡ length xs
+pub zip_length : {X Y : Type 0} (R : X → Y → Type 0) (xs : List X) (ys : List Y) → AllZip R xs ys → length ys ≡ length xs
 zip_length R [] [] z = refl
 zip_length R [] (y ∷ ys) z = absurd z
 zip_length R (x ∷ xs) [] z = absurd z
 zip_length R (x ∷ xs) (y ∷ ys) z = ap suc (zip_length R xs ys z.1)
 
-choice_length : (st : Setting) (atoms : List Value) (i : Instance) (hd : Head) (hs : List Group) → AreChoiceGroups st atoms i hd hs → length hs ≡ choice_groups hd
+pub choice_length : (st : Setting) (atoms : List Value) (i : Instance) (hd : Head) (hs : List Group) → AreChoiceGroups st atoms i hd hs → length hs ≡ choice_groups hd
 choice_length st atoms i (One atom) hs e = ap length e
 choice_length st atoms i (Choice None es None) hs e = ap length e
 choice_length st atoms i (Choice (Some l) es r) hs (h, e, a) = ap length e
@@ -85,7 +87,7 @@ module _ (st : Setting) (g g' : Parts) (atoms : List Value) where
       (λ f c. q f (there (i, n) (placed_from (n + groups_count i) found) f c)) (λ f c. q' f (there (j, m) (placed_from (m + groups_count j) found') f c)) in
       let xs : List Group = a.choice ++ a.own in
       let l1 : length a.choice ≡ choice_groups i.rule.head = choice_length st atoms i i.rule.head a.choice a.choice_is in
-      let l2 : length a.own ≡ length i.aggregates = zip_length (IsUseGroup st atoms i) i.aggregates a.own a.own_are in
+      let l2 : length a.own ≡ length i.aggregates = zip_length (IsAggregateGroup st atoms i) i.aggregates a.own a.own_are in
       let l3 : length (a.choice ++ a.own) ≡ length a.choice + length a.own = append_length a.choice a.own in
       let l : length (a.choice ++ a.own) ≡ groups_count i = omega (arith, l1, l2, l3) in
       let there_ : StandFrom g'.groups m (a.choice ++ a.own) = subst (λ cs. StandFrom g'.groups m (cs ++ a.own)) (sym (choice_is st atoms i j h g g' n m a b)) (subst (λ os. StandFrom g'.groups m (b.choice ++ os)) (sym (own_is st atoms i j h g g' n m a b)) b.stand) in
@@ -97,13 +99,13 @@ module _ (st : Setting) (g g' : Parts) (atoms : List Value) where
         ap (λ k. k + groups_of found) (same_count i j h) ∙ ap (λ k. groups_count j + k) cnt,
       )
 
-groups_are : (groups hs : List Group) → StandFrom groups 1 hs → length groups ≡ length hs → hs ≡ groups
+pub groups_are : (groups hs : List Group) → StandFrom groups 1 hs → length groups ≡ length hs → hs ≡ groups
 groups_are groups hs s e = lists_same hs groups e (λ j h at. let q : 1 + j ≡ suc j = omega arith in subst (λ n. numbered groups n ≡ Some h) q (stand_at groups 1 hs s j h at))
 
 -- ---- rules
 
 module _ (st : Setting) (g g' : Parts) (atoms : List Value) (found found' : List Instance) (p : IsGrounding st g atoms (placed_from 1 found)) (p' : IsGrounding st g' atoms (placed_from 1 found'))
-    (in_order : AllPairs (λ i j. IsTrue (is_lt (found_cmp i j))) found) (in_order' : AllPairs (λ i j. IsTrue (is_lt (found_cmp i j))) found') where
+    (in_order : AllPairs (λ i j. IsTrue (is_lt (instance_cmp i j))) found) (in_order' : AllPairs (λ i j. IsTrue (is_lt (instance_cmp i j))) found') where
   -- the other program has a rule with the same head and the same body
   abbrev pub HasLike : GroundRule → Type 0
   HasLike r = (s : GroundRule) × ((b : Body) × (numbered g.bodies r.body.0 ≡ Some b) × (numbered g'.bodies s.body.0 ≡ Some b)) × Contains g'.rules s × (s.head ≡ r.head)
@@ -183,7 +185,7 @@ module _ (st : Setting) (g g' : Parts) (atoms : List Value) (found found' : List
   bodies_in used b m =
       let (k, at) = number_of g.bodies b m in let (r, mr, rk) = used k b at in let (s, (b', at', at''), ms, hd) = has_like r mr in
       let e : b' ≡ b = some_same b' b (sym at' ∙ (ap (numbered g.bodies) rk ∙ at)) in
-      subst (Contains g'.bodies) e (at_number g'.bodies s.body.0 b' at'')
+      subst (Contains g'.bodies) e (numbered_in g'.bodies s.body.0 b' at'')
 
 -- ---- one of them
 

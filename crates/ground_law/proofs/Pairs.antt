@@ -13,10 +13,10 @@ use Rattle.ap_term.specs.Order.{value_cmp}
 use Rattle.ap_term.specs.Value.{Value, integer, Values}
 use Rattle.ap_term.proofs.OrderLemmas.{value_cmp-total}
 use Rattle.rule_form.specs.Instances.{Instance, GuardedAggregate}
-use Rattle.ground_law.specs.Ground.{IsUseGroup, IsLowest, IsBelowAtom, AreChoiceGroups, HasGroups, IsGrounding}
+use Rattle.ground_law.specs.Ground.{IsAggregateGroup, IsLowest, IsBelowAtom, AreChoiceGroups, HasGroups, IsGrounding}
 use Rattle.ground_law.specs.Groups.{IsTupleRow, IsGroundGroup, OfAggregate, OfChoice, left_guard, right_guard}
 use Rattle.ground_law.specs.Literals.{Exists}
-use Rattle.ground_law.specs.Program.{found_key, found_cmp, choice_groups, groups_count, placed_from}
+use Rattle.ground_law.specs.Program.{instance_key, instance_cmp, choice_groups, groups_count, placed_from}
 use Rattle.ground_law.proofs.Same.{agrees_on, agrees_back}
 use Rattle.ground_law.proofs.Unique.{less, turned_less, one_group}
 use Rattle.ground_form.specs.declared.groups.Group.{Group}
@@ -123,12 +123,12 @@ zip_in S (x ∷ xs) [] z a m = absurd z
 zip_in S (x ∷ xs) (y ∷ ys) (h, z) a m = ⊎_elim (λ e. (y, here y ys, subst (λ c. S c y) e h)) (λ r. let (b, n, g) = zip_in S xs ys z a r in (b, there y ys b n, g)) (first_or_rest x xs a m)
 
 module _ (st : Setting) (g g' : Parts) (atoms : List Value) (found found' : List Instance) (p : IsGrounding st g atoms (placed_from 1 found)) (p' : IsGrounding st g' atoms (placed_from 1 found'))
-    (in_order : AllPairs (λ i j. IsTrue (is_lt (found_cmp i j))) found) (in_order' : AllPairs (λ i j. IsTrue (is_lt (found_cmp i j))) found') where
-  key_same : (i j : Instance) → IsSame i j → found_key i ≡ found_key j
+    (in_order : AllPairs (λ i j. IsTrue (is_lt (instance_cmp i j))) found) (in_order' : AllPairs (λ i j. IsTrue (is_lt (instance_cmp i j))) found') where
+  key_same : (i j : Instance) → IsSame i j → instance_key i ≡ instance_key j
   key_same i j h = ap (λ n. integer (pos n) ∷ i.outer) h.place ∙ ap (λ vs. integer (pos j.place) ∷ vs) h.outer
 
   pub found_zip : AllZip IsSame found found'
-  found_zip = pairwise found_key (slice_cmp value_cmp) (lists_total value_cmp-total) IsSame key_same found found' in_order in_order'
+  found_zip = pairwise instance_key (slice_cmp value_cmp) (lists_total value_cmp-total) IsSame key_same found found' in_order in_order'
       (λ i m. let (k, c) = placed_has 1 found i m in let is = p.instances (i, k) c in let (f, c', same) = p'.all_found i is.0 is.1 in (f.0, has_placed 1 found' f c', same))
       (λ j m. let (k, c) = placed_has 1 found' j m in let is = p'.instances (j, k) c in let (f, c', same) = p.all_found j is.0 is.1 in (f.0, has_placed 1 found f c', same_back j f.0 same))
 
@@ -176,13 +176,13 @@ module _ (st : Setting) (atoms : List Value) (i j : Instance) (h : IsSame i j) w
   agrees_from : (u : Substitution) → Agrees (global_variables j.rule) j.values u → Agrees (global_variables i.rule) i.values u
   agrees_from u a = agrees_back (global_variables i.rule) i.values j.values u h.values (subst (λ (r : Rule). Agrees (global_variables r) j.values u) (sym h.rule) a)
 
-  use_group_to : (u : GuardedAggregate) (gr : Group) → IsUseGroup st atoms i u gr → IsUseGroup st atoms j u gr
+  use_group_to : (u : GuardedAggregate) (gr : Group) → IsAggregateGroup st atoms i u gr → IsAggregateGroup st atoms j u gr
   use_group_to u gr is = group_to st atoms (IsLowest st i) (IsLowest st j) u.aggregate.function (OfAggregate (global_variables i.rule) i.values u.aggregate.elements) (OfAggregate (global_variables j.rule) j.values u.aggregate.elements)
       (λ t b. (λ l n at. l n (subst (λ (r : Rule). IsHeadLevel st r.head n) (sym h.rule) at), λ l n at. l n (subst (λ (r : Rule). IsHeadLevel st r.head n) h.rule at)))
       (λ t ps ns. (λ (e, w, m, a, is', are). (e, w, m, agrees_to w a, is', are), λ (e, w, m, a, is', are). (e, w, m, agrees_from w a, is', are)))
       (left_guard u.aggregate.left u.left) (right_guard u.aggregate.right u.right) gr is
 
-  own_same : (us : List GuardedAggregate) (hs hs' : List Group) → AllZip (IsUseGroup st atoms i) us hs → AllZip (IsUseGroup st atoms j) us hs' → hs ≡ hs'
+  own_same : (us : List GuardedAggregate) (hs hs' : List Group) → AllZip (IsAggregateGroup st atoms i) us hs → AllZip (IsAggregateGroup st atoms j) us hs' → hs ≡ hs'
   own_same [] [] [] z z' = refl
   own_same [] [] (k ∷ hs') z z' = absurd z'
   own_same [] (k ∷ hs) hs' z z' = absurd z
@@ -210,4 +210,4 @@ module _ (st : Setting) (atoms : List Value) (i j : Instance) (h : IsSame i j) w
   choice_is g g' k k' q q' = choice_same j.rule.head q.choice q'.choice (subst (λ (r : Rule). AreChoiceGroups st atoms i r.head q.choice) h.rule q.choice_is) q'.choice_is
 
   pub own_is : (g g' : Parts) (k k' : ℕ) (q : HasGroups st g atoms i k) (q' : HasGroups st g' atoms j k') → q.own ≡ q'.own
-  own_is g g' k k' q q' = own_same j.aggregates q.own q'.own (subst (λ us. AllZip (IsUseGroup st atoms i) us q.own) h.aggregates q.own_are) q'.own_are
+  own_is g g' k k' q q' = own_same j.aggregates q.own q'.own (subst (λ us. AllZip (IsAggregateGroup st atoms i) us q.own) h.aggregates q.own_are) q'.own_are

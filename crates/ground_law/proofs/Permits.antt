@@ -28,7 +28,7 @@ use Rattle.ground_form.specs.declared.rules.GroundRule.{GroundRule}
 use Rattle.ground_form.specs.declared.rules.Head.{Head}
 use Rattle.ground_form.specs.declared.rules.Head.TheVariants as heads
 use Rattle.ground_form.specs.Obedience.{body_by}
-use Rattle.ground_form.specs.Programs.{Parts, numbered}
+use Rattle.ground_form.specs.Programs.{Parts}
 use Rattle.ground_form.specs.Truth.{rows_sum, guard_holds_if_there, body_true}
 use Rattle.ground_law.specs.Grounds.{GroundPermits}
 use Rattle.rule_form.specs.AnswerSets.{HeadHas, IsChosen, LeftAdmits, RightAdmits, HeadPermits}
@@ -45,6 +45,7 @@ use Rattle.rule_form.proofs.Lists.{in_map, to_map, apart_back, apart_map}
 use Rattle.rule_form.proofs.Totals.{Apart, apart}
 use Rattle.rule_form.proofs.Unfolds.{here, there}
 use Rattle.rule_form.proofs.Plain.{left_true, right_true}
+use Rattle.sets.specs.Lists.{numbered}
 
 abbrev pub is_nothing : Head → Type 0
 is_nothing (heads.One a) = ⊥

@@ -10,11 +10,10 @@ use Rattle.ground_law.specs.Groups.{left_guard, right_guard, OfAggregate}
 use Rattle.ground_law.specs.Guards.{group_extras, extras_from}
 use Rattle.ground_law.specs.Literals.{IsAtomNumber}
 use Rattle.ground_law.specs.Numbers.{numbers}
-use Rattle.ground_law.specs.Ground.{IsUseGroup, IsLowest, StandFrom}
+use Rattle.ground_law.specs.Ground.{IsAggregateGroup, IsLowest, StandFrom}
 use Rattle.ground_law.proofs.Guards.{extras_true, joined_true, group_is, left_is, right_is}
 use Rattle.ground_law.proofs.Rows.{IsTuple, IsTally, one_tally, group_tally}
 use Rattle.ground_form.specs.declared.groups.Group.{Group}
-use Rattle.ground_form.specs.Programs.{numbered}
 use Rattle.ground_form.specs.Truth.{rows_sum, guard_holds_if_there}
 use Rattle.rule_form.specs.Globals.{global_variables}
 use Rattle.rule_form.specs.Possible.{Setting, level, IsHeadLevel, IsPossible, IsCertain}
@@ -24,6 +23,7 @@ use Rattle.rule_form.specs.Values.{Substitution}
 use Rattle.rule_form.proofs.Conditions.{atoms_to, atoms_from}
 use Rattle.rule_form.proofs.Unfolds.{here, there, first_or_rest, nothing_in}
 use Rattle.rule_form.proofs.Plain.{left_true, right_true}
+use Rattle.sets.specs.Lists.{numbered}
 
 -- ---- what an aggregate counts, by its tuples with their atoms
 
@@ -41,7 +41,7 @@ module _ (st : Setting) (atoms : List Value) (places : (b : Value) → IsPossibl
   abbrev UseTrue : GuardedAggregate → Type 0
   UseTrue guarded = GuardedHolds (global_variables i.rule) (In x) (Out x) i.values guarded
 
-  module _ (guarded : GuardedAggregate) (h : Group) (is : IsUseGroup st atoms i guarded h) (k : ℕ) (at : numbered groups k ≡ Some h) where
+  module _ (guarded : GuardedAggregate) (h : Group) (is : IsAggregateGroup st atoms i guarded h) (k : ℕ) (at : numbered groups k ≡ Some h) where
     abbrev Of : Values → List Value → List Value → Type 0
     Of = OfAggregate (global_variables i.rule) i.values guarded.aggregate.elements
 
@@ -86,7 +86,7 @@ module _ (st : Setting) (atoms : List Value) (places : (b : Value) → IsPossibl
       λ (n, c, holds). extras_are ∙ subst (λ m. IsTrue (guards_hold guarded m)) (one_tally Of x guarded.aggregate.function n value (tally_of n c) tally) holds,
     )
 
-  pub uses_hold : (k : ℕ) (us : List GuardedAggregate) (hs : List Group) → AllZip (IsUseGroup st atoms i) us hs → StandFrom groups k hs
+  pub uses_hold : (k : ℕ) (us : List GuardedAggregate) (hs : List Group) → AllZip (IsAggregateGroup st atoms i) us hs → StandFrom groups k hs
       → IsTrue (extras_true groups (numbers atoms x) (extras_from k us hs)) ↔ ((guarded : GuardedAggregate) → Contains us guarded → UseTrue guarded)
   uses_hold k [] [] z stand = (λ e guarded m. absurd (nothing_in guarded m), λ f. refl)
   uses_hold k [] (h ∷ hs) z stand = absurd z

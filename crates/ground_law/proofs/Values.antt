@@ -9,13 +9,13 @@ use Rattle.ap_term.specs.Order.{value_cmp}
 use Rattle.ap_term.specs.Value.{Value}
 use Rattle.ap_term.proofs.OrderLemmas.{value_same, value_itself}
 use Rattle.ground_law.specs.Literals.{IsAtomNumber}
-use Rattle.ground_law.specs.Numbers.{at_value, numbers, values_from, values}
+use Rattle.ground_law.specs.Numbers.{at_value, numbers, atoms_from, atoms_at}
 use Rattle.ground_law.proofs.Literals.{and_true}
 use Rattle.ground_law.proofs.Lookup.{at_place}
-use Rattle.ground_form.specs.Programs.{numbered}
 use Rattle.rule_form.specs.Truth.{AtomSet}
 use Rattle.rule_form.proofs.Totals.{Apart, apart}
 use Rattle.rule_form.proofs.Plain.{left_true, right_true, some_same, none_some}
+use Rattle.sets.specs.Lists.{numbered}
 
 by_equal : (a b : Value) (o : Ordering) → value_cmp a b ≡ o → IsTrue (is_eq o) → a ≡ b
 by_equal a b Equal e h = value_same a b e
@@ -57,22 +57,22 @@ or_right : (p q : Bool) → IsTrue q → IsTrue (p || q)
 or_right true q h = refl
 or_right false q h = h
 
-from_values : (n : ℕ) (bs : List Value) (z : ℕ → Bool) (a : Value) → IsTrue (values_from n bs z a) → (j : ℕ) × (slice_get bs j ≡ Some a) × IsTrue (z (n + j))
+from_values : (n : ℕ) (bs : List Value) (z : ℕ → Bool) (a : Value) → IsTrue (atoms_from n bs z a) → (j : ℕ) × (slice_get bs j ≡ Some a) × IsTrue (z (n + j))
 from_values n [] z a h = absurd (false≢true h)
-from_values n (b ∷ bs) z a h = or_cases (is_eq (value_cmp a b) && z n) (values_from (suc n) bs z a) ((j : ℕ) × (slice_get (b ∷ bs) j ≡ Some a) × IsTrue (z (n + j)))
+from_values n (b ∷ bs) z a h = or_cases (is_eq (value_cmp a b) && z n) (atoms_from (suc n) bs z a) ((j : ℕ) × (slice_get (b ∷ bs) j ≡ Some a) × IsTrue (z (n + j)))
     (λ t. let e : n ≡ n + 0 = omega arith in (zero, ap (λ c. Some c) (sym (same_from a b (left_true (is_eq (value_cmp a b)) (z n) t))), subst (λ m. IsTrue (z m)) e (right_true (is_eq (value_cmp a b)) (z n) t)))
     (λ t. let (j, at, zj) = from_values (suc n) bs z a t in let e : suc n + j ≡ n + suc j = omega arith in (suc j, at, subst (λ m. IsTrue (z m)) e zj)) h
 
-to_values : (n : ℕ) (bs : List Value) (z : ℕ → Bool) (a : Value) (j : ℕ) → slice_get bs j ≡ Some a → IsTrue (z (n + j)) → IsTrue (values_from n bs z a)
+to_values : (n : ℕ) (bs : List Value) (z : ℕ → Bool) (a : Value) (j : ℕ) → slice_get bs j ≡ Some a → IsTrue (z (n + j)) → IsTrue (atoms_from n bs z a)
 to_values n [] z a j e h = absurd (none_some a e)
-to_values n (b ∷ bs) z a zero e h = let s : n + 0 ≡ n = omega arith in or_left (is_eq (value_cmp a b) && z n) (values_from (suc n) bs z a)
+to_values n (b ∷ bs) z a zero e h = let s : n + 0 ≡ n = omega arith in or_left (is_eq (value_cmp a b) && z n) (atoms_from (suc n) bs z a)
     (and_true (is_eq (value_cmp a b)) (z n) (subst (λ c. IsTrue (is_eq (value_cmp a c))) (sym (some_same b a e)) (itself a)) (subst (λ m. IsTrue (z m)) s h))
-to_values n (b ∷ bs) z a (suc j) e h = let s : n + suc j ≡ suc n + j = omega arith in or_right (is_eq (value_cmp a b) && z n) (values_from (suc n) bs z a) (to_values (suc n) bs z a j e (subst (λ m. IsTrue (z m)) s h))
+to_values n (b ∷ bs) z a (suc j) e h = let s : n + suc j ≡ suc n + j = omega arith in or_right (is_eq (value_cmp a b) && z n) (atoms_from (suc n) bs z a) (to_values (suc n) bs z a j e (subst (λ m. IsTrue (z m)) s h))
 
-pub in_values : (atoms : List Value) (z : ℕ → Bool) (a : Value) → IsTrue (values atoms z a) → (k : ℕ) × IsAtomNumber atoms k a × IsTrue (z k)
+pub in_values : (atoms : List Value) (z : ℕ → Bool) (a : Value) → IsTrue (atoms_at atoms z a) → (k : ℕ) × IsAtomNumber atoms k a × IsTrue (z k)
 in_values atoms z a h = let (j, at, zj) = from_values 1 atoms z a h in let e : 1 + j ≡ suc j = omega arith in (suc j, at, subst (λ m. IsTrue (z m)) e zj)
 
-pub values_in : (atoms : List Value) (z : ℕ → Bool) (a : Value) (k : ℕ) → IsAtomNumber atoms k a → IsTrue (z k) → IsTrue (values atoms z a)
+pub values_in : (atoms : List Value) (z : ℕ → Bool) (a : Value) (k : ℕ) → IsAtomNumber atoms k a → IsTrue (z k) → IsTrue (atoms_at atoms z a)
 values_in atoms z a zero e h = absurd (none_some a e)
 values_in atoms z a (suc j) e h = let s : suc j ≡ 1 + j = omega arith in to_values 1 atoms z a j e (subst (λ m. IsTrue (z m)) s h)
 
@@ -83,12 +83,12 @@ same_by false true f g = g refl
 same_by false false f g = refl
 
 -- a set of numbers of atoms is that of its values
-pub numbers_of_values : (atoms : List Value) → Apart atoms → (z : ℕ → Bool) → ((k : ℕ) → IsTrue (z k) → (b : Value) × IsAtomNumber atoms k b) → (k : ℕ) → numbers atoms (values atoms z) k ≡ z k
-numbers_of_values atoms h z within k = same_by (numbers atoms (values atoms z) k) (z k)
+pub numbers_of_values : (atoms : List Value) → Apart atoms → (z : ℕ → Bool) → ((k : ℕ) → IsTrue (z k) → (b : Value) × IsAtomNumber atoms k b) → (k : ℕ) → numbers atoms (atoms_at atoms z) k ≡ z k
+numbers_of_values atoms h z within k = same_by (numbers atoms (atoms_at atoms z) k) (z k)
     (λ t. at (numbered atoms k) refl t)
-    (λ t. let (b, num) = within k t in ap (at_value (values atoms z)) num ∙ values_in atoms z b k num t)
+    (λ t. let (b, num) = within k t in ap (at_value (atoms_at atoms z)) num ∙ values_in atoms z b k num t)
   where
-    at : (o : Option Value) → numbered atoms k ≡ o → IsTrue (at_value (values atoms z) o) → IsTrue (z k)
+    at : (o : Option Value) → numbered atoms k ≡ o → IsTrue (at_value (atoms_at atoms z) o) → IsTrue (z k)
     at None e t = absurd (false≢true t)
     at (Some b) e t = let (j, num, zj) = in_values atoms z b t in subst (λ m. IsTrue (z m)) (one_number atoms h j k b num e) zj
 

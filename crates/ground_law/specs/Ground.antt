@@ -13,13 +13,14 @@ use Rattle.rule_form.specs.Relevant.{IsAsked, IsBarred, IsRelevant}
 use Rattle.ground_form.specs.declared.groups.Group.{Group}
 use Rattle.ground_form.specs.declared.rules.GroundRule.{GroundRule}
 use Rattle.ground_form.specs.declared.rules.Head.TheVariants as heads
-use Rattle.ground_form.specs.Programs.{Parts, numbered}
+use Rattle.ground_form.specs.Programs.{Parts}
 use Rattle.rule_form.specs.Globals.{Agrees, global_variables}
 use Rattle.rule_form.specs.Instances.{AreConditionAtoms}
 use Rattle.rule_form.specs.Possible.{Setting, level, IsHeadLevel, IsPossible}
 use Rattle.rule_form.specs.Trees.{Guard, Choosable, One, Choice, Nothing, Rule}
 use Rattle.rule_form.specs.Trees as trees
 use Rattle.rule_form.specs.Values.{Substitution, IsAtom}
+use Rattle.sets.specs.Lists.{numbered}
 
 -- ---- the groups of an instance
 
@@ -32,9 +33,11 @@ abbrev pub IsBelowAtom : Setting → Values → Value → Type 0
 IsBelowAtom setting none b = ⊥
 IsBelowAtom setting (also a vs) b = level setting b < level setting a
 
-abbrev pub IsUseGroup : Setting → List Value → Instance → GuardedAggregate → Group → Type 0
-IsUseGroup setting atoms i guarded h =
-    IsGroundGroup setting atoms (IsLowest setting i) guarded.aggregate.function (OfAggregate (global_variables i.rule) i.values guarded.aggregate.elements)
+-- the group of an aggregate of the instance
+abbrev pub IsAggregateGroup : Setting → List Value → Instance → GuardedAggregate → Group → Type 0
+IsAggregateGroup setting atoms i guarded h =
+    IsGroundGroup setting atoms (IsLowest setting i) guarded.aggregate.function
+    (OfAggregate (global_variables i.rule) i.values guarded.aggregate.elements)
     (left_guard guarded.aggregate.left guarded.left) (right_guard guarded.aggregate.right guarded.right) h
 
 -- a choice with a guard has a group
@@ -42,9 +45,11 @@ abbrev pub AreChoiceGroups : Setting → List Value → Instance → trees.Head 
 AreChoiceGroups setting atoms i (One atom) hs = hs ≡ []
 AreChoiceGroups setting atoms i (Choice None elements None) hs = hs ≡ []
 AreChoiceGroups setting atoms i (Choice (Some left) elements right) hs = (h : Group) × (hs ≡ h ∷ [])
-    × IsGroundGroup setting atoms (IsBelowAtom setting) Count (OfChoice (global_variables i.rule) i.values elements) (left_guard (Some left) i.left) (right_guard right i.right) h
+    × IsGroundGroup setting atoms (IsBelowAtom setting) Count (OfChoice (global_variables i.rule) i.values elements)
+    (left_guard (Some left) i.left) (right_guard right i.right) h
 AreChoiceGroups setting atoms i (Choice None elements (Some right)) hs = (h : Group) × (hs ≡ h ∷ [])
-    × IsGroundGroup setting atoms (IsBelowAtom setting) Count (OfChoice (global_variables i.rule) i.values elements) None (right_guard (Some right) i.right) h
+    × IsGroundGroup setting atoms (IsBelowAtom setting) Count (OfChoice (global_variables i.rule) i.values elements)
+    None (right_guard (Some right) i.right) h
 AreChoiceGroups setting atoms i Nothing hs = hs ≡ []
 
 -- the groups stand in the program from number k on
@@ -66,14 +71,16 @@ IsGroundElement setting i elements a qs ms = (e : Choosable) × (u : Substitutio
     × Exists setting (λ b. level setting b < level setting a) (a ∷ qs) ms
 
 module _ (setting : Setting) (g : Parts) (atoms : List Value) (i : Instance) (extras : Extras) where
+  -- the rule derives atom a by the body of the instance
   abbrev pub IsDerivingRule : Value → GroundRule → Type 0
   IsDerivingRule a rule = (n : ℕ) × IsAtomNumber atoms n a × (rule.head ≡ heads.One (record { 0 = n }))
       × IsGroundBody g atoms (IsAsked setting i) (IsBarred setting i) extras rule
 
+  -- the rule chooses atom a, with the condition of its element in the body
   abbrev pub IsElementRule : Value → List Value → List Value → GroundRule → Type 0
   IsElementRule a qs ms rule = (n : ℕ) × IsAtomNumber atoms n a × (rule.head ≡ heads.Choice (record { 0 = n }))
-      × IsGroundBody g atoms (λ b. Contains qs b ⊎ IsAsked setting i b) (λ b. Contains ms b
-      ⊎ IsBarred setting i b) extras rule
+      × IsGroundBody g atoms (λ b. Contains qs b ⊎ IsAsked setting i b)
+      (λ b. Contains ms b ⊎ IsBarred setting i b) extras rule
 
   -- a constraint with some more literals over guards
   abbrev pub IsConstraintRule : Extras → GroundRule → Type 0
@@ -93,9 +100,11 @@ module _ (setting : Setting) (g : Parts) (atoms : List Value) (i : Instance) (ex
       × IsGroundElement setting i elements a qs ms × IsElementRule a qs ms rule) ⊎ IsGuardRule k choice rule
   IsHeadRule k choice Nothing rule = IsConstraintRule no_extras rule
 
+  -- the program has a rule of which P holds
   abbrev pub HasRule : (GroundRule → Type 0) → Type 0
   HasRule P = (rule : GroundRule) × Contains g.rules rule × P rule
 
+  -- the program has the constraints of a choice
   abbrev pub HasGuardRules : ℕ → List Group → Type 0
   HasGuardRules k [] = Unit {0}
   HasGuardRules k (h ∷ hs) = (IsTrue (is_some h.left) → HasRule (IsConstraintRule (guard_extra false k 0 h.left)))
@@ -118,9 +127,10 @@ pub record HasGroups (setting : Setting) (g : Parts) (atoms : List Value) (i : I
   pub choice : List Group
   pub own : List Group
   pub choice_is : AreChoiceGroups setting atoms i i.rule.head choice
-  pub own_are : AllZip (IsUseGroup setting atoms i) i.aggregates own
+  pub own_are : AllZip (IsAggregateGroup setting atoms i) i.aggregates own
   pub stand : StandFrom g.groups k (choice ++ own)
 
+-- what the bodies of the instance have of its aggregates
 abbrev pub extras_of : (setting : Setting) (g : Parts) (atoms : List Value) (i : Instance) (k : ℕ)
     → HasGroups setting g atoms i k → Extras
 extras_of setting g atoms i k p = extras_from (k + length p.choice) i.aggregates p.own
@@ -138,8 +148,10 @@ pub record IsGrounding (setting : Setting) (g : Parts) (atoms : List Value) (fou
   pub sound : (rule : GroundRule) → Contains g.rules rule
       → ((a : Value) × Contains setting.certain a × IsFactRule g atoms a rule)
       ⊎ ((f : Instance × ℕ) × (c : Contains found f)
-      × IsHeadRule setting g atoms f.0 (extras_of setting g atoms f.0 f.1 (placed f c)) f.1 (placed f c).choice f.0.rule.head rule)
+      × IsHeadRule setting g atoms f.0 (extras_of setting g atoms f.0 f.1 (placed f c)) f.1 (placed f c).choice
+      f.0.rule.head rule)
   pub facts : (a : Value) → Contains setting.certain a → (rule : GroundRule) × Contains g.rules rule
       × IsFactRule g atoms a rule
   pub whole : (f : Instance × ℕ) (c : Contains found f)
-      → HasHeadRules setting g atoms f.0 (extras_of setting g atoms f.0 f.1 (placed f c)) f.1 (placed f c).choice f.0.rule.head
+      → HasHeadRules setting g atoms f.0 (extras_of setting g atoms f.0 f.1 (placed f c)) f.1 (placed f c).choice
+      f.0.rule.head

@@ -33,6 +33,7 @@ same_rel rels.Le = Le
 same_rel rels.Gt = Gt
 same_rel rels.Ge = Ge
 
+-- the relation of a guard on the left, turned
 abbrev pub turned_rel : Rel → GuardRel
 turned_rel rels.Eq = Eq
 turned_rel rels.Ne = Ne
@@ -48,6 +49,7 @@ guard_of rel alike (constant name) = Fixed (alike (pos 0))
 guard_of rel alike (string bytes) = Fixed (alike (pos 0))
 guard_of rel alike (compound name vs) = Fixed (alike (pos 0))
 
+-- the guard of the group, with the value that the instance has for it
 abbrev pub left_guard : Option Guard → Option Value → Option GroupGuard
 left_guard None v = None
 left_guard (Some guard) None = None
@@ -60,6 +62,7 @@ right_guard (Some guard) (Some v) = Some (guard_of (same_rel guard.rel) (λ n. c
 
 -- ---- tuples with their conditions: positive and negative atoms
 
+-- the tuple is one of an element of an aggregate, with the atoms of its condition
 abbrev pub OfAggregate : List (List ℕ) → Substitution → List Element → Values → List Value → List Value → Type 0
 OfAggregate globals s elements t ps ns = (e : Element) × (u : Substitution) × Contains elements e × Agrees globals s u
     × AreValues u e.terms t × AreConditionAtoms u e.condition ps ns
@@ -72,6 +75,7 @@ OfChoice globals s elements t ps ns = (e : Choosable) × (u : Substitution) × (
 
 -- ---- groups
 
+-- what a tuple adds to the sum, if anything
 abbrev pub weight_of : Function → Values → Option ℤ
 weight_of Count t = Some (pos 1)
 weight_of Sum none = None
@@ -80,8 +84,9 @@ weight_of Sum (also (constant name) vs) = None
 weight_of Sum (also (string bytes) vs) = None
 weight_of Sum (also (compound name ws) vs) = None
 
-module _ (setting : Setting) (atoms : List Value) (lower : Values → Value
-    → Type 0) (function : Function) (comes : Values → List Value → List Value → Type 0) where
+-- `lower t b` says that atom b counts as lower for tuple t, and `comes t ps ns` that t comes with these positive and negative atoms
+module _ (setting : Setting) (atoms : List Value) (lower : Values → Value → Type 0) (function : Function)
+    (comes : Values → List Value → List Value → Type 0) where
   -- the conditions of the tuple that exist, each once and in order
   pub record IsTupleRow (t : Values) (row : GroupRow) : Type 0 where
     pub weight : row.weight ≡ weight_of function t

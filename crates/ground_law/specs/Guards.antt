@@ -23,7 +23,8 @@ joined e f = record { guards = e.guards ++ f.guards; fixed = e.fixed ++ f.fixed 
 -- the literal over guard j of group k, or its negation
 abbrev pub guard_extra : Bool → ℕ → ℕ → Option GroupGuard → Extras
 guard_extra sign k j None = no_extras
-guard_extra sign k j (Some (Compare rel n)) = record { guards = record { group = k; guard = j; yes = sign } ∷ []; fixed = [] }
+guard_extra sign k j (Some (Compare rel n)) =
+    record { guards = record { group = k; guard = j; yes = sign } ∷ []; fixed = [] }
 guard_extra sign k j (Some (Fixed b)) = record { guards = []; fixed = beq sign b ∷ [] }
 
 -- what a body has of a negated aggregate over group k: the negation of its guard, or of the conjunction of both
@@ -33,6 +34,7 @@ negated_extras k (Some g) None = guard_extra false k 0 (Some g)
 negated_extras k None (Some h) = guard_extra false k 1 (Some h)
 negated_extras k (Some g) (Some h) = record { guards = record { group = k; guard = 2; yes = false } ∷ []; fixed = [] }
 
+-- what a body has of an aggregate, negated or not, over group k
 abbrev pub group_extras : Bool → ℕ → Group → Extras
 group_extras true k h = negated_extras k h.left h.right
 group_extras false k h = joined (guard_extra true k 0 h.left) (guard_extra true k 1 h.right)
@@ -40,8 +42,10 @@ group_extras false k h = joined (guard_extra true k 0 h.left) (guard_extra true 
 -- what a body has of its aggregates, whose groups are numbered from k
 abbrev pub extras_from : ℕ → List GuardedAggregate → List Group → Extras
 extras_from k [] hs = no_extras
-extras_from k (guarded ∷ us) [] = no_extras
-extras_from k (guarded ∷ us) (h ∷ hs) = joined (group_extras guarded.aggregate.negated k h) (extras_from (suc k) us hs)
+extras_from k (a ∷ rest) [] = no_extras
+extras_from k (a ∷ rest) (h ∷ hs) = joined (group_extras a.aggregate.negated k h) (extras_from (suc k) rest hs)
 
+-- the body of these literals and extras
 abbrev pub body_of : List ℤ → Extras → Body
-body_of cs extras = record { lits = cs; guards = extras.guards; always = list_any (λ b. b) extras.fixed; never = list_any not extras.fixed }
+body_of cs extras =
+    record { lits = cs; guards = extras.guards; always = list_any (λ b. b) extras.fixed; never = list_any not extras.fixed }

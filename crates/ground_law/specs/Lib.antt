@@ -1,8 +1,10 @@
 pub mod Grounds
 pub mod Numbers
 pub mod Literals
+pub mod Facts
 pub mod Groups
 pub mod Guards
 pub mod Ground
 pub mod Quantities
+pub mod Settings
 pub mod Program

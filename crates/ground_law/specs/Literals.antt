@@ -5,8 +5,8 @@ use Rattle.std.specs.Cmp.Lexicographic.{slice_cmp}
 use Rattle.std.specs.declared.cmp.Ordering.{Ordering}
 use Rattle.std.specs.Ordering.{nat_cmp}
 use Rattle.ap_term.specs.Value.{Value}
-use Rattle.ground_form.specs.Programs.{numbered}
 use Rattle.rule_form.specs.Possible.{Setting, IsPossible, IsCertain}
+use Rattle.sets.specs.Lists.{numbered}
 
 -- the atom has this number
 abbrev pub IsAtomNumber : List Value → ℕ → Value → Type 0

@@ -15,18 +15,19 @@ use Rattle.ground_form.specs.declared.bodies.GuardUse.{GuardUse}
 use Rattle.ground_form.specs.declared.rules.GroundRule.{GroundRule}
 use Rattle.ground_form.specs.declared.rules.Head.{Head}
 use Rattle.ground_form.specs.declared.rules.Head.TheVariants.{One, Choice, Nothing}
-use Rattle.ground_form.specs.Programs.{Parts, numbered}
+use Rattle.ground_form.specs.Programs.{Parts}
 use Rattle.rule_form.specs.Possible.{Setting}
 use Rattle.rule_form.specs.Trees as trees
+use Rattle.sets.specs.Lists.{numbered}
 
 -- ---- the order of instances, and where their groups begin
 
 -- by the number of the rule, then by the list of values
-abbrev pub found_key : Instance → List Value
-found_key i = integer (pos i.place) ∷ i.outer
+abbrev pub instance_key : Instance → List Value
+instance_key i = integer (pos i.place) ∷ i.outer
 
-abbrev pub found_cmp : Instance → Instance → Ordering
-found_cmp i j = slice_cmp value_cmp (found_key i) (found_key j)
+abbrev pub instance_cmp : Instance → Instance → Ordering
+instance_cmp i j = slice_cmp value_cmp (instance_key i) (instance_key j)
 
 abbrev pub choice_groups : trees.Head → ℕ
 choice_groups (trees.One atom) = 0
@@ -53,7 +54,7 @@ put_if true key keys = key ∷ keys
 put_if false key keys = keys
 
 abbrev pub guard_key : ℕ → GuardUse → List ℕ
-guard_key n guarded = (n + 2) * 2 ∷ guarded.group ∷ guarded.guard ∷ (if guarded.yes then 0 else 1) ∷ []
+guard_key n literal = (n + 2) * 2 ∷ literal.group ∷ literal.guard ∷ (if literal.yes then 0 else 1) ∷ []
 
 abbrev pub body_keys : ℕ → Body → List (List ℕ)
 body_keys n body = map (λ c. literal_place c ∷ []) body.lits
@@ -75,7 +76,7 @@ rule_cmp r s = slice_cmp nat_cmp (head_key r.head ++ r.body.0 ∷ []) (head_key 
 -- g is the ground program, over a table of values
 pub record IsGroundProgram (table : List Value) (setting : Setting) (g : Parts) : Type 0 where
   pub found : List Instance
-  pub in_order : AllPairs (λ i j. IsTrue (is_lt (found_cmp i j))) found
+  pub in_order : AllPairs (λ i j. IsTrue (is_lt (instance_cmp i j))) found
   pub grounding : IsGrounding setting g (map (value_at table) g.atoms) (placed_from 1 found)
   pub all_groups : length g.groups ≡ groups_of found
   pub rules_ordered : AllPairs (λ r s. IsTrue (is_lt (rule_cmp r s))) g.rules

@@ -1,47 +1,29 @@
 -- The quantities of the limits, as sets.
-use Rattle.std.specs.Prelude.{◌≡◌, ◌≢◌, ◌⊎◌, ℕ, ℤ, ◌<◌, Bool, List, AllPairs, All, Contains, length, slice_get, Option, Some, None, IsTrue}
-use Rattle.ap_syntax.specs.declared.terms.Rel.{Rel}
+use Rattle.std.specs.Prelude.{◌≡◌, ◌≤◌, ◌⊎◌, ℕ, ℤ, Bool, List, Contains, slice_get, Option, Some, None}
 use Rattle.ap_term.specs.Value.{Value, Values}
-use Rattle.rule_form.specs.Instances.{Instance, GuardedAggregate, GuardedHolds, IsInstance}
+use Rattle.rule_form.specs.Instances.{Instance, GuardedAggregate, IsInstance}
 use Rattle.ground_law.specs.Ground.{IsLowest, IsBelowAtom}
 use Rattle.ground_law.specs.Groups.{OfAggregate, OfChoice}
 use Rattle.ground_law.specs.Literals.{AreGroundLiterals, Exists}
-use Rattle.rule_form.specs.Relevant.{IsAsked, IsBarred, IsUncertain, MayApply, Stands, IsRelevant}
+use Rattle.rule_form.specs.Relevant.{IsRelevantBy}
 use Rattle.rule_form.specs.Globals.{global_variables}
-use Rattle.rule_form.specs.Possible.{Setting, IsPossible, IsCertain}
-use Rattle.rule_form.specs.Trees.{Guard, Aggregate, Compare, Choosable, Head, One, Choice, Nothing, Rule}
-use Rattle.rule_form.specs.Trees as trees
-use Rattle.rule_form.specs.Truth.{compares}
-use Rattle.rule_form.specs.Values.{Substitution, IsValue}
-
--- ---- instances
-
--- an instance by its number and its values
-pub record InstanceKey : Type 0 where
-  pub place : ℕ
-  pub outer : List Value
-
-abbrev pub HasInstance : (Instance → Type 0) → InstanceKey → Type 0
-HasInstance P key = (i : Instance) × (i.place ≡ key.place) × (i.outer ≡ key.outer) × P i
-
-abbrev pub IsRelevantKey : Setting → InstanceKey → Type 0
-IsRelevantKey setting key = HasInstance (λ i. IsInstance setting.rules i × IsRelevant setting i) key
+use Rattle.rule_form.specs.Possible.{Setting}
+use Rattle.rule_form.specs.Trees.{Guard, Aggregate, Head, One, Choice, Nothing}
+use Rattle.rule_form.specs.Counts.{InstanceKey, HasInstance}
+use Rattle.ground_form.specs.Ranges.{weight_size}
+use Rattle.ground_form.specs.Programs.{Parts}
+use Rattle.ground_form.specs.declared.groups.GroupRow.{GroupRow}
+use Rattle.ground_form.specs.declared.groups.Group.{Group}
 
 -- ---- pairs of a tuple and a condition
 
--- what an instance is before its aggregates over definite predicates are looked at, but for assignment aggregates: an instance has the
--- values of these
-pub record IsTried (setting : Setting) (assigned : Aggregate → Bool) (i : Instance) : Type 0 where
-  pub asked : (b : Value) → IsAsked setting i b → IsPossible setting b
-  pub barred : MayApply setting i.rule.head (IsBarred setting i)
-  pub compared : (u : Substitution) (l : trees.Term) (rel : Rel) (r : trees.Term) (v w : Value)
-      → Stands setting i u (Compare l rel r) → IsValue u l v → IsValue u r w → IsTrue (compares rel v w)
-  pub values : (u : GuardedAggregate) → Contains i.aggregates u → IsTrue (assigned u.aggregate)
-      → GuardedHolds (global_variables i.rule) (IsCertain setting) (IsUncertain setting) i.values u
+-- An instance is looked at before its aggregates over definite predicates are, but for assignment aggregates: it has the values of these
+abbrev pub IsTried : Setting → (Aggregate → Bool) → Instance → Type 0
+IsTried setting assigned i = IsRelevantBy setting assigned i
 
 -- the group is the choice's, or that of the aggregate at this place
 pub record Pair : Type 0 where
-  pub comes : InstanceKey
+  pub key : InstanceKey
   pub group : Option ℕ
   pub tuple : Values
   pub condition : List ℤ
@@ -57,8 +39,8 @@ IsChoicePair setting atoms i (Choice left elements right) p = IsGuarded left rig
     × AreGroundLiterals atoms (Contains ps) (Contains ns) p.condition)
 IsChoicePair setting atoms i Nothing p = ⊥
 
-abbrev pub IsUsePair : Setting → List Value → Instance → Pair → Type 0
-IsUsePair setting atoms i p = (j : ℕ) × (u : GuardedAggregate) × (p.group ≡ Some j)
+abbrev pub IsAggregatePair : Setting → List Value → Instance → Pair → Type 0
+IsAggregatePair setting atoms i p = (j : ℕ) × (u : GuardedAggregate) × (p.group ≡ Some j)
     × (slice_get i.aggregates j ≡ Some u) × ((ps ns : List Value)
     × OfAggregate (global_variables i.rule) i.values u.aggregate.elements p.tuple ps ns
     × Exists setting (IsLowest setting i p.tuple) ps ns
@@ -67,4 +49,9 @@ IsUsePair setting atoms i p = (j : ℕ) × (u : GuardedAggregate) × (p.group �
 -- the atoms are those with a number, the possible ones in order
 abbrev pub IsPair : Setting → (Aggregate → Bool) → List Value → Pair → Type 0
 IsPair setting assigned atoms p = HasInstance (λ i. IsInstance setting.rules i × IsTried setting assigned i
-    × (IsChoicePair setting atoms i i.rule.head p ⊎ IsUsePair setting atoms i p)) p.comes
+    × (IsChoicePair setting atoms i i.rule.head p ⊎ IsAggregatePair setting atoms i p)) p.key
+
+-- each tuple adds an integer of the values' range to the sum of its group
+abbrev pub HasSmallWeights : Parts → Type 0
+HasSmallWeights g =
+    (h : Group) (row : GroupRow) → Contains g.groups h → Contains h.rows row → weight_size row.weight ≤ 2147483647

@@ -1,15 +1,11 @@
 -- A condition is true where its positive atoms are in y, and its negative ones not in x.
-use Rattle.std.proofs.Common.{◌≡◌, ℕ, List, [], ◌∷◌, ◌++◌, IsTrue, IsFalse, refl, sym, subst}
-use Rattle.std.specs.Prelude.{◌↔◌}
+use Rattle.std.proofs.Common.{List, [], ◌∷◌, ◌++◌, IsTrue, IsFalse, refl, subst}
 use Rattle.std.specs.List.{AllByRecursion}
-use Rattle.std.proofs.lemmas.List.Elements.{All-from_recursion, recursion_from_All}
 use Rattle.ap_term.specs.Value.{Value}
-use Rattle.rule_form.specs.AnswerSets.{HeadHas, RuleDerives}
-use Rattle.rule_form.specs.Globals.{global_variables}
 use Rattle.rule_form.specs.Instances.{AreConditionAtoms}
-use Rattle.rule_form.specs.Trees.{Literal, Pos, Not, Compare, Item, Plain, Each, Agg, Head, One, Choice, Nothing, Rule}
-use Rattle.rule_form.specs.Truth.{AtomSet, LiteralTrue, ItemTrue}
-use Rattle.rule_form.specs.Values.{Substitution, IsAtom}
+use Rattle.rule_form.specs.Trees.{Literal, Pos, Not, Compare}
+use Rattle.rule_form.specs.Truth.{AtomSet, LiteralTrue}
+use Rattle.rule_form.specs.Values.{Substitution}
 
 pub both_parts : {X : Type 0} (P : X → Type 0) (xs ys : List X) → AllByRecursion P (xs ++ ys) → AllByRecursion P xs × AllByRecursion P ys
 both_parts P [] ys h = (tt, h)

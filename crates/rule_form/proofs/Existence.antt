@@ -3,9 +3,10 @@ use Rattle.std.proofs.Common.{◌≡◌, ℕ, zero, suc, ◌<◌, Bool, true, fa
 use Rattle.std.specs.Prelude.{nat_lt}
 use Rattle.std.proofs.lemmas.Bool.{false≢true}
 use Rattle.std.proofs.lemmas.Bool.Decides.{nat_tests}
-use Rattle.rule_form.specs.AnswerSets.{IsSubset, IsStable}
+use Rattle.rule_form.specs.AnswerSets.{IsStable}
 use Rattle.rule_form.proofs.Stable.{Supported, stable}
 use Rattle.rule_form.proofs.Decided.{IsDecided}
+use Rattle.sets.specs.Sets.{IsSubset}
 
 abbrev answer : {P : Type 0} → IsDecided P → Bool
 answer (inl p) = true

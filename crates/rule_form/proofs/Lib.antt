@@ -22,3 +22,4 @@ pub mod Instances
 pub mod Matching
 pub mod PossibleValues
 pub mod Limits
+pub mod Examples

@@ -5,23 +5,22 @@ use Rattle.rule_form.specs.Globals.{Agrees, global_variables}
 use Rattle.rule_form.specs.Trees.{Guard, Choosable, Head, One, Choice, Nothing, Rule}
 use Rattle.rule_form.specs.Truth.{AtomSet, ConditionTrue, BodyTrue, HasGuardValue, IsOfRange, compares}
 use Rattle.rule_form.specs.Values.{Substitution, IsValue, IsAtom}
+use Rattle.sets.specs.Sets.{IsSubset}
 
 -- ---- answer sets of anything that derives atoms
 
 -- `derives x y a` says that the reduct by x has a rule with the head a whose body y has; `permits x` says that x meets the
 -- constraints. A set of atoms is given by its test
 
-abbrev pub IsSubset : {A : Type 0} → (A → Bool) → (A → Bool) → Type 0
-IsSubset {A} x y = (a : A) → IsTrue (x a) → IsTrue (y a)
-
-pub record IsClosed {A : Type 0} (derives : (A → Bool) → (A → Bool) → A → Type 0) (facts : A → Type 0) (x y : A
-    → Bool) : Type 0 where
+-- y has the facts, and what the reduct by x derives of it
+pub record IsClosed {A : Type 0} (derives : (A → Bool) → (A → Bool) → A → Type 0) (facts : A → Type 0)
+    (x y : A → Bool) : Type 0 where
   pub has_facts : (a : A) → facts a → IsTrue (y a)
   pub has_heads : (a : A) → derives x y a → IsTrue (y a)
 
 -- x is finite and closed under the reduct by x, no proper subset of it is, and the constraints are met
-pub record IsStable {A : Type 0} (derives : (A → Bool) → (A → Bool) → A → Type 0) (permits : (A → Bool)
-    → Type 0) (facts : A → Type 0) (x : A → Bool) : Type 0 where
+pub record IsStable {A : Type 0} (derives : (A → Bool) → (A → Bool) → A → Type 0) (permits : (A → Bool) → Type 0)
+    (facts : A → Type 0) (x : A → Bool) : Type 0 where
   pub finite : (atoms : List A) × ((a : A) → IsTrue (x a) → Contains atoms a)
   pub closed : IsClosed derives facts x x
   pub minimal : (y : A → Bool) → IsSubset y x → IsClosed derives facts x y → IsSubset x y

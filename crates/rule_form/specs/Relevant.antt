@@ -1,11 +1,11 @@
 -- Relevant instances.
-use Rattle.std.specs.Prelude.{◌⊎◌, ◌<◌, List, [], ◌∷◌, All, Contains, IsTrue}
+use Rattle.std.specs.Prelude.{◌⊎◌, Bool, ◌<◌, List, [], ◌∷◌, All, Contains, IsTrue}
 use Rattle.ap_syntax.specs.declared.terms.Rel.{Rel}
 use Rattle.ap_term.specs.Value.{Value}
 use Rattle.rule_form.specs.Instances.{Instance, GuardedAggregate, GuardedHolds}
 use Rattle.rule_form.specs.Globals.{Agrees, global_variables}
 use Rattle.rule_form.specs.Possible.{Setting, level, atom_level, IsPossible, IsCertain}
-use Rattle.rule_form.specs.Trees.{Term, Atom, Literal, Pos, Not, Compare, Each, Choosable, Head, One, Choice, Nothing}
+use Rattle.rule_form.specs.Trees.{Term, Aggregate, Atom, Literal, Pos, Not, Compare, Each, Choosable, Head, One, Choice, Nothing}
 use Rattle.rule_form.specs.Truth.{Holds, compares}
 use Rattle.rule_form.specs.Values.{Substitution, IsValue, IsAtom}
 
@@ -35,11 +35,16 @@ MayApply setting (Choice left (first ∷ rest) right) barred = (e : Choosable) �
     × ((b : Value) → barred b → level setting b < atom_level setting e.atom → IsUncertain setting b)
 MayApply setting Nothing barred = (b : Value) → barred b → IsUncertain setting b
 
-pub record IsRelevant (setting : Setting) (i : Instance) : Type 0 where
+-- its positive atoms are possible, nothing that it bars is certain in a lower component, no conditional literal of it is over a false
+-- comparison, and those of its aggregates that are looked at are true
+pub record IsRelevantBy (setting : Setting) (looked_at : Aggregate → Bool) (i : Instance) : Type 0 where
   pub asked : (b : Value) → IsAsked setting i b → IsPossible setting b
   pub barred : MayApply setting i.rule.head (IsBarred setting i)
   pub compared : (u : Substitution) (l : Term) (rel : Rel) (r : Term) (v w : Value)
       → Stands setting i u (Compare l rel r) → IsValue u l v → IsValue u r w → IsTrue (compares rel v w)
-  pub evaluated : (guarded : GuardedAggregate) → Contains i.aggregates guarded
-      → IsTrue (setting.evaluated guarded.aggregate)
-      → GuardedHolds (global_variables i.rule) (IsCertain setting) (IsUncertain setting) i.values guarded
+  pub evaluated : (g : GuardedAggregate) → Contains i.aggregates g → IsTrue (looked_at g.aggregate)
+      → GuardedHolds (global_variables i.rule) (IsCertain setting) (IsUncertain setting) i.values g
+
+-- a relevant instance has the aggregates over definite predicates true
+abbrev pub IsRelevant : Setting → Instance → Type 0
+IsRelevant setting i = IsRelevantBy setting setting.evaluated i

@@ -9,8 +9,8 @@ returns-clause-same c = λ st assigned definite g atoms found facts judges stati
     same_answers_by_number assigned st judges (λ b. IsTrue (definite b)) (definite_certain st (λ b. IsTrue (definite b)) static) static.rules g atoms found grounding facts numbered
 
 pub returns-clause-of_atoms : goal.returns-clause-of_atoms
-returns-clause-of_atoms c = λ st assigned definite g atoms found facts z judges static grounding numbered h k.
-    ap (λ w. w k) (answers_are_of_atoms assigned st judges (λ b. IsTrue (definite b)) (definite_certain st (λ b. IsTrue (definite b)) static) static.rules g atoms found grounding facts numbered z h)
+returns-clause-of_atoms c = λ st definite g atoms found facts z static grounding numbered h k.
+    ap (λ w. w k) (answers_are_of_atoms (λ a. false) st (λ a e. absurd (false≢true e)) (λ b. IsTrue (definite b)) (definite_certain st (λ b. IsTrue (definite b)) static) static.rules g atoms found grounding facts numbered z h)
 
 pub returns-clause-in_the_set : goal.returns-clause-in_the_set
 returns-clause-in_the_set c = λ st definite g atoms found facts static grounding numbered.
