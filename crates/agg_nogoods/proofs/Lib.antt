@@ -7,3 +7,5 @@ pub mod RuleLemmas
 pub mod LookLemmas
 pub mod FoundLemmas
 pub mod NoneLemmas
+mod KeptLemmas
+mod AnswerLemmas

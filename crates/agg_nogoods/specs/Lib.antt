@@ -3,3 +3,4 @@ pub mod Implied
 pub mod Known
 pub mod Ends
 pub mod Slack
+pub mod Kept

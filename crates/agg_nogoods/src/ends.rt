@@ -1,5 +1,5 @@
 // The ends of a sum.
-ghost use Rattle.std.specs.Prelude.{◌≡◌, ◌+◌, ◌<◌, ◌≤◌, ◌^◌, ◌+ℤ◌, unsigned_abs, sum_by};
+ghost use Rattle.std.specs.Prelude.{◌≡◌, ◌+◌, ◌<◌, ◌≤◌, ◌^◌, ◌+ℤ◌, ◌-ℤ◌, unsigned_abs, sum_by};
 ghost use Rattle.agg_nogoods.specs.Ends.{least_share, greatest_share, least_end, greatest_end};
 
 use crate::known::Known;
@@ -26,6 +26,31 @@ impl Ends {
             greatest: self.greatest + share.greatest,
         }
     }
+
+    // The ends of the sum where the variable of a term of this weight has the value `to` in place of `from`.
+    pub(crate) fn with_change(self, weight: i64, from: Option<bool>, to: Option<bool>) -> Ends
+        requires small_least { unsigned_abs self.least < 2 ^ 52 }
+        requires small_greatest { unsigned_abs self.greatest < 2 ^ 52 }
+        requires small_weight { unsigned_abs weight < 2 ^ 52 }
+        ensures least { result.least ≡ self.least +ℤ (least_share to weight -ℤ least_share from weight) }
+        ensures greatest { result.greatest ≡ self.greatest +ℤ (greatest_share to weight -ℤ greatest_share from weight) }
+    {
+        let (before, after) = (share_of(from, weight), share_of(to, weight));
+        Ends {
+            least: moved(self.least, before.least, after.least),
+            greatest: moved(self.greatest, before.greatest, after.greatest),
+        }
+    }
+}
+
+// An end with another share of a term.
+fn moved(end: i64, before: i64, after: i64) -> i64
+    requires end { unsigned_abs end < 2 ^ 52 }
+    requires before { unsigned_abs before < 2 ^ 52 }
+    requires after { unsigned_abs after < 2 ^ 52 }
+    ensures { result ≡ end +ℤ (after -ℤ before) }
+{
+    end + (after - before)
 }
 
 // What a term of this weight adds, by the value of its variable.

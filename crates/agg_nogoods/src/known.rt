@@ -29,6 +29,17 @@ impl Known for Clause {
     }
 }
 
+// An assignment knows its own values.
+impl Known for Assignment {
+    ghost use Rattle.theory_form.specs.Truth.{value_of};
+
+    ghost known = { λ a. value_of a };
+
+    fn value(&self, var: Var) -> Option<bool> {
+        self.value(var)
+    }
+}
+
 // An assignment with a value for one variable more, or the same value for it again.
 #[derive(Clone, Copy)]
 pub(crate) struct With<'a> {

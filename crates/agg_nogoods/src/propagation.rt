@@ -1,14 +1,16 @@
 // Clauses that a row implies and that an assignment makes unit or false.
-ghost use Rattle.std.specs.Prelude.{◌≡◌, ◌↔◌, All, ◌≤ℤ◌, ◌<ℤ◌, pos, unsigned_abs, Some, None, IfOk, IfSome, IsTrue, IsFalse, MatchOption, Contains, option_to_list};
+ghost use Rattle.std.specs.Prelude.{◌≡◌, ◌≢◌, ◌↔◌, ◌<◌, ◌≤◌, ◌^◌, ◌-ℤ◌, if◌then◌else◌, All, ◌≤ℤ◌, ◌<ℤ◌, pos, true, false, unsigned_abs, Some, None, IfOk, IfSome, IsTrue, IsFalse, MatchOption, Contains, option_to_list};
 ghost use Rattle.theory_form.specs.declared.literals.Lit.{Lit as Literal};
 ghost use Rattle.theory_form.specs.Kinds.{IsRow};
 ghost use Rattle.theory_form.specs.Literals.{IsAscending};
 ghost use Rattle.theory_form.specs.Truth.{value_of};
 ghost use Rattle.agg_nogoods.specs.Implied.{AllCount, HoldsWithRow, IsAnswer, IsOverRow};
+ghost use Rattle.agg_nogoods.specs.Kept.{AreEndsOf};
 ghost use Rattle.agg_nogoods.specs.Known.{known_with};
 ghost use Rattle.agg_nogoods.specs.Slack.{IsForced, NoneForced, false_literal, false_literals, hinders, literals_of, slack};
 
-use crate::ends::ends_of;
+use crate::ends::{Ends, ends_of};
+use crate::kept::RowEnds;
 use crate::known::{Known, With};
 use std::alloc::{AllocError, Global};
 use theory_form::{Assignment, Clause, Lit, SumRow, Var};
@@ -29,44 +31,127 @@ pub fn propagate(alloc: Global, row: &SumRow, a: &Assignment) -> Result<Option<C
     ensures over { IfOk result (λ found. IfSome found (All (IsOverRow row.now))) }
 {
     match a.value(row.var) {
-        Some(holds) => propagate_terms(alloc, row, a, holds),
-        None => propagate_own(alloc, row, a),
+        Some(holds) => propagate_terms(alloc, row, a, holds, slack_of(row, a, holds)),
+        None => {
+            let (where_true, where_false) = (slack_of(row, a, true), slack_of(row, a, false));
+            propagate_own(alloc, row, a, where_true, where_false)
+        }
     }
 }
 
-// The same where the row's variable has no value.
-fn propagate_own(alloc: Global, row: &SumRow, a: &Assignment) -> Result<Option<Clause>, AllocError>
+/// The same, where the caller keeps the ends of the row's sum. Where nothing is implied by the ends and the heaviest weight, it takes
+/// constant time.
+///
+/// Conditions: those of `propagate`; the row's own variable is none of its terms'; and these are the ends of the row under the assignment.
+pub fn propagate_by(
+    alloc: Global,
+    row: &SumRow,
+    a: &Assignment,
+    ends: RowEnds,
+) -> Result<Option<Clause>, AllocError>
+    requires row { IsRow row.now.terms row.now.bound }
+    requires own { All (λ t. t.1 ≢ row.now.var) row.now.terms }
+    requires ends { AreEndsOf (value_of a.now) row.now ends }
+    ensures answer { IfOk result (IsAnswer row.now a.now) }
+    ensures holds { IfOk result (λ found. IfSome found (HoldsWithRow row.now)) }
+    ensures counts { IfOk result (λ found. IfSome found (AllCount row.now)) }
+    ensures over { IfOk result (λ found. IfSome found (All (IsOverRow row.now))) }
+{
+    match a.value(row.var) {
+        Some(holds) => {
+            let slack = slack_by(row, a, ends, holds);
+            if is_quiet(slack, ends.heaviest) {
+                return Ok(None);
+            }
+            propagate_terms(alloc, row, a, holds, slack)
+        }
+        None => {
+            let (where_true, where_false) = (
+                slack_by(row, a, ends, true),
+                slack_by(row, a, ends, false),
+            );
+            propagate_own(alloc, row, a, where_true, where_false)
+        }
+    }
+}
+
+// Whether no weight is more than the slack.
+fn is_quiet(slack: i64, heaviest: u64) -> bool
+    ensures { IsTrue result → pos heaviest ≤ℤ slack }
+{
+    slack >= 0 && heaviest <= slack as u64
+}
+
+// The slack where the row's variable has this value, by the ends that a caller keeps.
+fn slack_by(row: &SumRow, a: &Assignment, ends: RowEnds, holds: bool) -> i64
+    requires row { IsRow row.now.terms row.now.bound }
+    requires own { All (λ t. t.1 ≢ row.now.var) row.now.terms }
+    requires ends { AreEndsOf (value_of a.now) row.now ends }
+    ensures { result ≡ slack (known_with a.now row.now.var.0 holds) row.now holds }
+{
+    let ends = Ends {
+        least: ends.least,
+        greatest: ends.greatest,
+    };
+    slack_at(ends, row.bound, holds)
+}
+
+// The slack of a sum with these ends where the row's variable has this value.
+fn slack_at(ends: Ends, bound: i64, holds: bool) -> i64
+    requires small_least { unsigned_abs ends.least < 2 ^ 52 }
+    requires small_greatest { unsigned_abs ends.greatest < 2 ^ 52 }
+    requires small_bound { unsigned_abs bound ≤ 2 ^ 52 }
+    ensures { result ≡ (if holds then ends.greatest -ℤ bound else ((bound -ℤ pos 1) -ℤ ends.least)) }
+{
+    if holds {
+        ends.greatest - bound
+    } else {
+        bound - 1 - ends.least
+    }
+}
+
+// The same where the row's variable has no value, and these are the slacks where it is true and where it is false.
+fn propagate_own(
+    alloc: Global,
+    row: &SumRow,
+    a: &Assignment,
+    where_true: i64,
+    where_false: i64,
+) -> Result<Option<Clause>, AllocError>
     requires row { IsRow row.now.terms row.now.bound }
     requires free { value_of a.now row.now.var.0 ≡ None }
+    requires where_true { where_true ≡ slack (known_with a.now row.now.var.0 true) row.now true }
+    requires where_false { where_false ≡ slack (known_with a.now row.now.var.0 false) row.now false }
     ensures answer { IfOk result (IsAnswer row.now a.now) }
     ensures counts { IfOk result (λ found. IfSome found (AllCount row.now)) }
 {
-    if slack_of(row, a, true) < 0 {
+    if where_true < 0 {
         return Ok(Some(clause_of(alloc, row, a, true, None)?));
     }
-    if slack_of(row, a, false) < 0 {
+    if where_false < 0 {
         return Ok(Some(clause_of(alloc, row, a, false, None)?));
     }
     Ok(None)
 }
 
-// The same where it has this value.
+// The same where it has this value, and this is the slack.
 fn propagate_terms(
     alloc: Global,
     row: &SumRow,
     a: &Assignment,
     holds: bool,
+    spare: i64,
 ) -> Result<Option<Clause>, AllocError>
     requires row { IsRow row.now.terms row.now.bound }
     requires value { value_of a.now row.now.var.0 ≡ Some holds }
+    requires spare { spare ≡ slack (known_with a.now row.now.var.0 holds) row.now holds }
     ensures answer { IfOk result (IsAnswer row.now a.now) }
     ensures counts { IfOk result (λ found. IfSome found (AllCount row.now)) }
 {
-    let slack = slack_of(row, a, holds);
-    if slack < 0 {
+    if spare < 0 {
         return Ok(Some(clause_of(alloc, row, a, holds, None)?));
     }
-    match forced_literal(row, a, holds, slack) {
+    match forced_literal(row, a, holds, spare) {
         Some(forced) => Ok(Some(clause_of(alloc, row, a, holds, Some(forced))?)),
         None => Ok(None),
     }
@@ -83,11 +168,7 @@ fn slack_of(row: &SumRow, a: &Assignment, holds: bool) -> i64
         holds,
     };
     let ends = ends_of(row.terms.as_slice(), &known);
-    if holds {
-        ends.greatest - row.bound
-    } else {
-        row.bound - 1 - ends.least
-    }
+    slack_at(ends, row.bound, holds)
 }
 
 // A literal without which the sum cannot do what is asked where the row's variable has this value.

@@ -4,7 +4,7 @@ ghost use Rattle.theory_form.specs.Kinds.{IsRow};
 ghost use Rattle.agg_nogoods.specs.Implied.{IsConsistent};
 
 use crate::known::has;
-use crate::{implied, propagate};
+use crate::{RowEnds, implied, propagate, propagate_by};
 use sqlite_items::Items;
 use std::process::Abort;
 use std::test::Fail;
@@ -114,9 +114,10 @@ fn is_new(var: Var, terms: &[(i64, Var)]) -> bool
 }
 
 fn row(rt: &(impl Abort + AllocGlobal), terms: &[(i64, Var)], bound: i64) -> Result<SumRow, Fail>
-    ensures { IfOk result (λ row. IsRow row.terms row.bound) }
+    ensures row { IfOk result (λ row. IsRow row.terms row.bound) }
+    ensures own { IfOk result (λ row. All (λ t. t.1 ≢ row.var) row.terms) }
 {
-    assert!(rt; are_small(terms) && are_apart(terms));
+    assert!(rt; are_small(terms) && are_apart(terms) && is_new(Var(9), terms));
     assert!(rt; -1000 < bound && bound < 1000);
     Ok(SumRow {
         var: Var(9),
@@ -135,6 +136,15 @@ fn is_consistent(c: &Clause) -> bool
         }
     }
     true
+}
+
+// Whether both answer the same clause, or none.
+fn are_same(one: &Option<Clause>, other: &Option<Clause>) -> bool {
+    match (one, other) {
+        (Some(c), Some(d)) => c.lits() == d.lits(),
+        (None, None) => true,
+        _ => false,
+    }
 }
 
 fn assignment(rt: &impl AllocGlobal, numbers: &[i64]) -> Result<Assignment, Fail> {
@@ -166,6 +176,8 @@ fn forced_literals(rt: HostRuntime) -> Result<(), Fail> {
         let row = row(&rt, terms, *bound)?;
         let a = assignment(&rt, numbers)?;
         let found = propagate(rt.alloc(), &row, &a)?;
+        let by_ends = propagate_by(rt.alloc(), &row, &a, RowEnds::of(&row, &a))?;
+        assert!(rt; are_same(&found, &by_ends), "{bound}");
         match (found, want) {
             (None, None) => {}
             (Some(c), Some(numbers)) => {
@@ -175,5 +187,20 @@ fn forced_literals(rt: HostRuntime) -> Result<(), Fail> {
             _ => return Err(Fail::from("another answer")),
         }
     }
+    Ok(())
+}
+
+// A value that is told lowers the greatest sum.
+#[test]
+fn ends_that_are_kept(rt: HostRuntime) -> Result<(), Fail> {
+    let row = row(&rt, MIXED, 1)?;
+    let a = assignment(&rt, &[])?;
+    let mut ends = RowEnds::of(&row, &a);
+    assert_eq!(rt; (ends.least, ends.greatest, ends.heaviest), (-2, 3, 3));
+    assert!(rt; row.terms.len() == 3);
+    let (_, var) = row.terms.as_slice()[0];
+    let before = a.value(var);
+    ends.change(&row, 0, before, Some(false));
+    assert_eq!(rt; (ends.least, ends.greatest), (-2, 0));
     Ok(())
 }
