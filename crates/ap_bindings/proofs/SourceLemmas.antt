@@ -1,5 +1,5 @@
 -- A source by the first of its unbound variables, and sources one after the other.
-use Rattle.std.proofs.Common.{◌≡◌, refl, sym, ap, subst, ℕ, List, [], ◌∷◌, ◌++◌, All, Option, Some, None}
+use Rattle.std.proofs.Common.{◌≡◌, refl, sym, subst, ℕ, List, [], ◌∷◌, ◌++◌, All, Option, Some, None}
 use Rattle.std.proofs.lemmas.List.Elements.{All-nil, All-cons, All-append, All-weaker}
 use Rattle.ap_bindings.specs.declared.search.Failing.{Failing}
 use Rattle.ap_bindings.specs.Texts.{IsFirstFailing, first_failing}

@@ -37,7 +37,7 @@ use Rattle.pred_graph.proofs.DependLemmas.{head_mentioned, body_mentioned, atom_
 any_found : {X : Type 0} (f : X → Bool) (xs : List X) → list_any f xs ≡ true → (x : X) × Contains xs x × (f x ≡ true)
 any_found f xs h = from_any (λ x. f x ≡ true) xs (Any-from_list_any f xs h)
 
-found_any : {X : Type 0} (f : X → Bool) (xs : List X) (x : X) → Contains xs x → f x ≡ true → list_any f xs ≡ true
+pub found_any : {X : Type 0} (f : X → Bool) (xs : List X) (x : X) → Contains xs x → f x ≡ true → list_any f xs ≡ true
 found_any f xs x h e = list_any_at f xs h.0 x h.1 (subst (λ v. f v ≡ true) (sym h.2) e)
 
 and_both : (a b : Bool) → a && b ≡ true → (a ≡ true) × (b ≡ true)

@@ -12,14 +12,10 @@ mod rows;
 mod safe;
 mod table;
 
-pub use graph::{Edge, edges_of};
 pub use judging::judge;
-pub use numbers::number_at;
 pub use pred::{Pred, pred_of};
 pub use predicates::{
     body_aggregates, body_positives, body_preds, choice_elements, choice_preds,
     condition_positives_of, condition_preds_of, head_preds,
 };
-pub use rows::numbers_of;
 pub use safe::Safe;
-pub use table::{place_of, table_of};
