@@ -1,5 +1,5 @@
 -- The ends of a sum are reached, and nothing is beyond them.
-use Rattle.std.proofs.Common.{◌≡◌, ◌≢◌, ℕ, ◌==◌, ℤ, pos, ◌+ℤ◌, ◌≤ℤ◌, Bool, true, false, not, cond, ◌⊎◌, inl, inr, List, [], ◌∷◌, refl, sym, ap, ap₂, subst, ◌∙◌, eq-eqb, arith}
+use Rattle.std.proofs.Common.{◌≡◌, ◌≢◌, ℕ, ◌==◌, ℤ, pos, ◌+ℤ◌, ◌≤ℤ◌, Bool, true, false, not, cond, ◌⊎◌, inl, inr, List, [], ◌∷◌, refl, sym, ap, ap₂, subst, ◌∙◌, eq-eqb, arith, ⊎_elim}
 use Rattle.std.specs.Prelude.{Option, Some, None, int_lt, unsigned_abs}
 use Rattle.std.proofs.lemmas.Int.{ints, clamps}
 use Rattle.std.proofs.lemmas.Bool.{eqb-true}
@@ -160,15 +160,20 @@ put_against k t free (s ∷ ss) apart (inr i) =
 
 -- ---- more values
 
--- what one knows the other knows too
+-- what one knows the other knows too, or it is what the greatest sum takes where nothing is known
 abbrev pub IsKept : (ℕ → Option Bool) → (ℕ → Option Bool) → ℤ × Var → Type 0
-IsKept k l t = (b : Bool) → k t.1.0 ≡ Some b → l t.1.0 ≡ Some b
+IsKept k l t = (b : Bool) → k t.1.0 ≡ Some b → (l t.1.0 ≡ Some b) ⊎ (greatest_share (Some b) t.0 ≡ greatest_share None t.0)
 
-share_kept : (o p : Option Bool) (w : ℤ) → ((b : Bool) → o ≡ Some b → p ≡ Some b) → greatest_share p w ≤ℤ greatest_share o w
-share_kept (Some b) p w h = subst (λ q. greatest_share q w ≤ℤ greatest_share (Some b) w) (sym (h b refl)) (omega (arith, ints))
-share_kept None None w h = omega (arith, ints)
-share_kept None (Some true) w h = omega (arith, ints, clamps)
-share_kept None (Some false) w h = omega (arith, ints, clamps)
+share_most : (p : Option Bool) (w : ℤ) → greatest_share p w ≤ℤ greatest_share None w
+share_most None w = omega (arith, ints)
+share_most (Some true) w = omega (arith, ints, clamps)
+share_most (Some false) w = omega (arith, ints, clamps)
+
+share_kept : (o p : Option Bool) (w : ℤ) → ((b : Bool) → o ≡ Some b → (p ≡ Some b) ⊎ (greatest_share (Some b) w ≡ greatest_share None w)) → greatest_share p w ≤ℤ greatest_share o w
+share_kept (Some b) p w h =
+    ⊎_elim (λ e. subst (λ q. greatest_share q w ≤ℤ greatest_share (Some b) w) (sym e) (omega (arith, ints)))
+    (λ e. subst (λ n. greatest_share p w ≤ℤ n) (sym e) (share_most p w)) (h b refl)
+share_kept None p w h = share_most p w
 
 pub greatest_end-kept : (k l : ℕ → Option Bool) (ts : List (ℤ × Var)) → Each (IsKept k l) ts → greatest_end l ts ≤ℤ greatest_end k ts
 greatest_end-kept k l [] h = omega (arith, ints)

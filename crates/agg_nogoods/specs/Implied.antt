@@ -1,5 +1,6 @@
 -- The clauses that a sum row implies.
-use Rattle.std.specs.Prelude.{ℕ, ℤ, ◌≤ℤ◌, ◌<ℤ◌, Bool, true, false, List, Option, Some, None, ◌⊎◌, Contains, IsTrue}
+use Rattle.std.specs.Prelude.{◌≡◌, ◌≢◌, ℕ, ℤ, pos, ◌≤ℤ◌, ◌<ℤ◌, int_lt, Bool, true, false, not, Any, List, Option, Some, None, ◌⊎◌, Contains, IsTrue}
+use Rattle.std.specs.Bool.{beq}
 use Rattle.theory_form.specs.declared.literals.Lit.{Lit}
 use Rattle.theory_form.specs.declared.rows.SumRow.{SumRow}
 use Rattle.theory_form.specs.Literals.{opposite}
@@ -38,6 +39,20 @@ HoldsWithRow row c = (f : ℕ → Bool) → IsRowTrue f row → IsTrue (clause_t
 -- the clause is false, or unit
 abbrev pub IsFalseOrUnit : List (Option Bool) → List Lit → Type 0
 IsFalseOrUnit a c = IsFalseClause a c ⊎ ((i : ℕ) × IsUnitAt a c i)
+
+-- The literal is over a variable of a term and counts where the row's variable has this value: where the literal is true, the
+-- sum is greater if the row's variable is true, and less if it is false.
+abbrev pub IsCounting : SumRow → Bool → Lit → Type 0
+IsCounting row holds l = (w : ℤ) × Contains row.terms (w, l.var) × (w ≢ pos 0) × (l.yes ≡ beq (int_lt (pos 0) w) holds)
+
+-- The clause has a literal over the row's variable, and all others count where that literal is false.
+abbrev pub AllCount : SumRow → List Lit → Type 0
+AllCount row c = (holds : Bool) × Contains c (record { var = row.var; yes = not holds })
+    × ((l : Lit) → Contains c l → (l ≡ record { var = row.var; yes = not holds }) ⊎ IsCounting row holds l)
+
+-- the literal is over the row's variable or one of its terms'
+abbrev pub IsOverRow : SumRow → Lit → Type 0
+IsOverRow row l = (l.var ≡ row.var) ⊎ Any (λ t. t.1 ≡ l.var) row.terms
 
 -- Where no clause is answered, each implied clause is neither false nor unit; and a clause that is answered is implied, and
 -- false or unit.

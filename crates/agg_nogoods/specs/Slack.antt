@@ -1,6 +1,7 @@
 -- What the value of a row's variable asks of the sum.
-use Rattle.std.specs.Prelude.{◌≡◌, ℕ, ℤ, pos, ◌-ℤ◌, ◌≤ℤ◌, ◌<ℤ◌, int_lt, unsigned_abs, Bool, true, false, not, List, [], ◌∷◌, ◌++◌, Option, Some, None, option_to_list, All, Contains}
+use Rattle.std.specs.Prelude.{◌≡◌, ℕ, ℤ, pos, ◌-ℤ◌, ◌≤ℤ◌, ◌<ℤ◌, int_lt, unsigned_abs, Bool, true, false, not, ◌&&◌, if◌then◌else◌, List, [], ◌∷◌, ◌++◌, Option, Some, None, option_to_list, All, Contains}
 use Rattle.std.specs.Bool.{beq}
+use Rattle.std.specs.Ordering.{int_eq}
 use Rattle.theory_form.specs.declared.literals.Lit.{Lit}
 use Rattle.theory_form.specs.declared.literals.Var.{Var}
 use Rattle.theory_form.specs.declared.rows.SumRow.{SumRow}
@@ -25,15 +26,20 @@ pub record IsForced (known : ℕ → Option Bool) (row : SumRow) (holds : Bool) 
   pub heavy : slack <ℤ pos (unsigned_abs weight)
   pub sign : l.yes ≡ beq (int_lt (pos 0) weight) holds
 
--- the false literals over the variables of terms
-abbrev pub false_literal : Option Bool → Var → List Lit
-false_literal None v = []
-false_literal (Some b) v = record { var = v; yes = not b } ∷ []
+-- The value of a variable of this weight hinders the sum from what is asked: it makes the greatest sum less where the row's
+-- variable is true, or the least sum more where it is false.
+abbrev pub hinders : Bool → ℤ → Bool → Bool
+hinders holds w b = not (int_eq w (pos 0)) && not (beq b (beq (int_lt (pos 0) w) holds))
 
-abbrev pub false_literals : (ℕ → Option Bool) → List (ℤ × Var) → List Lit
-false_literals known [] = []
-false_literals known (t ∷ ts) = false_literal (known t.1.0) t.1 ++ false_literals known ts
+-- the false literals over the variables of terms whose values hinder the sum
+abbrev pub false_literal : Bool → ℤ → Option Bool → Var → List Lit
+false_literal holds w None v = []
+false_literal holds w (Some b) v = if hinders holds w b then record { var = v; yes = not b } ∷ [] else []
 
--- the false literals over the row's variables, then the one over its own variable, and one more if there is one
+abbrev pub false_literals : Bool → (ℕ → Option Bool) → List (ℤ × Var) → List Lit
+false_literals holds known [] = []
+false_literals holds known (t ∷ ts) = false_literal holds t.0 (known t.1.0) t.1 ++ false_literals holds known ts
+
+-- these literals, then the one over the row's own variable, and one more if there is one
 abbrev pub literals_of : (ℕ → Option Bool) → SumRow → Bool → Option Lit → List Lit
-literals_of known row holds forced = (false_literals known row.terms ++ record { var = row.var; yes = not holds } ∷ []) ++ option_to_list forced
+literals_of known row holds forced = (false_literals holds known row.terms ++ record { var = row.var; yes = not holds } ∷ []) ++ option_to_list forced

@@ -41,7 +41,7 @@ static RULE: [(&[(i64, Var)], i64, &[i64], bool); 16] = [
 ];
 
 // Rows by terms and bound, assignments as lists of true literals, and the clause.
-static FOUND: [(&[(i64, Var)], i64, &[i64], Option<&[i64]>); 14] = [
+static FOUND: [(&[(i64, Var)], i64, &[i64], Option<&[i64]>); 15] = [
     (NONE, 1, &[], Some(&[-9])),
     (NONE, 0, &[], Some(&[9])),
     (NONE, 0, &[-9], Some(&[9])),
@@ -56,8 +56,10 @@ static FOUND: [(&[(i64, Var)], i64, &[i64], Option<&[i64]>); 14] = [
     (EQUAL, 2, &[1, 2, -9], Some(&[-1, -2, 9])),
     // The sums go from -2 to 3, and the weight of variable 2 is negative.
     (MIXED, 2, &[9], Some(&[1, -9])),
-    (MIXED, 2, &[1, 9], Some(&[-1, -2, -9])),
-    (MIXED, 0, &[-1, -9], Some(&[1, 2, 9])),
+    // A value that does not hinder the sum is not in the clause.
+    (MIXED, 2, &[1, 9], Some(&[-2, -9])),
+    (MIXED, 0, &[-1, -9], Some(&[2, 9])),
+    (EQUAL, 2, &[-1, 3, 9], Some(&[1, 2, -9])),
 ];
 
 fn literal(number: i64) -> Lit {

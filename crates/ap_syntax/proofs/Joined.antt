@@ -1,13 +1,14 @@
 -- Texts of pieces in turn, and of lists with something between the members.
 use Rattle.std.proofs.Common.{◌≡◌, ℕ, List, [], ◌∷◌, ◌++◌, refl, sym, ap, ◌∙◌, append_assoc}
+use Rattle.std.specs.Prelude.{codes}
+use Rattle.std.specs.List.{flat_map}
 use Rattle.std.proofs.lemmas.List.{append-nil}
 use Rattle.std.proofs.lemmas.Grind.{flat_map-append}
-use Rattle.ap_syntax.specs.declared.programs.PartKind.{PartKind}
 use Rattle.ap_syntax.specs.declared.programs.Statement.{Statement}
 use Rattle.ap_syntax.specs.declared.rules.BodyItem.{BodyItem}
 use Rattle.ap_syntax.specs.Pieces.{Piece, bytes_of, parted, text_of}
 use Rattle.ap_syntax.specs.CanonicalRules.{body_pieces, item_pieces, separator}
-use Rattle.ap_syntax.specs.Canonical.{line_pieces, lines, part_behind}
+use Rattle.ap_syntax.specs.Canonical.{line_pieces, statement_pieces}
 
 pub text_append : (xs ys : List Piece) → text_of (xs ++ ys) ≡ text_of xs ++ text_of ys
 text_append xs ys = flat_map-append bytes_of xs ys
@@ -51,12 +52,14 @@ joined_body_pieces (item ∷ items) = body_behind item items []
 
 -- ---- lines
 
-abbrev pub joined_lines : PartKind → List Statement → List ℕ
-joined_lines part [] = []
-joined_lines part (statement ∷ rest) = text_of (line_pieces part statement) ++ joined_lines (part_behind part statement) rest
+abbrev pub joined_lines : List Statement → List ℕ
+joined_lines [] = []
+joined_lines (statement ∷ rest) = text_of (statement_pieces statement) ++ (codes "\n" ++ joined_lines rest)
 
-pub joined_lines_text : (part : PartKind) (statements : List Statement) → joined_lines part statements ≡ text_of (lines part statements)
-joined_lines_text part [] = refl
-joined_lines_text part (statement ∷ rest) =
-    ap (λ ts. text_of (line_pieces part statement) ++ ts) (joined_lines_text (part_behind part statement) rest)
-    ∙ sym (text_append (line_pieces part statement) (lines (part_behind part statement) rest))
+pub joined_lines_text : (statements : List Statement) → joined_lines statements ≡ text_of (flat_map line_pieces statements)
+joined_lines_text [] = refl
+joined_lines_text (statement ∷ rest) =
+    ap (λ ts. text_of (statement_pieces statement) ++ (codes "\n" ++ ts)) (joined_lines_text rest)
+    ∙ sym (text_append (line_pieces statement) (flat_map line_pieces rest)
+    ∙ ap (λ ts. ts ++ text_of (flat_map line_pieces rest)) (text_append (statement_pieces statement) (Piece.LineFeed ∷ []))
+    ∙ append_assoc (text_of (statement_pieces statement)) (codes "\n") (text_of (flat_map line_pieces rest)))

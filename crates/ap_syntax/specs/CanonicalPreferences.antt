@@ -39,16 +39,21 @@ given_pieces None = []
 given_pieces (Some ranked) = spaced (codes "||") ++ ranked_pieces ranked
 
 abbrev pub element_pieces : Element → List Piece
-element_pieces element = parted (spaced (codes ">>")) (map ranked_pieces element.ranks) ++ given_pieces element.given ++ condition_pieces element.domain
+element_pieces element =
+    parted (spaced (codes ">>")) (map ranked_pieces element.ranks)
+    ++ given_pieces element.given ++ condition_pieces element.domain
 
--- A type is written without blanks: its name, and in parentheses another one if there is one. Its characters are those of the
--- tree; this tells its tokens apart.
+-- A type is written without blanks: its name, and in parentheses another one if there is one. Its characters are those of
+-- the tree; this tells its tokens apart.
 abbrev pub inner_pieces : List ℕ → List Piece
 inner_pieces [] = []
-inner_pieces (paren ∷ rest) = spelled (paren ∷ []) ++ spelled (take (length rest - 1) rest) ++ spelled (drop (length rest - 1) rest)
+inner_pieces (paren ∷ rest) =
+    spelled (paren ∷ []) ++ spelled (take (length rest - 1) rest) ++ spelled (drop (length rest - 1) rest)
 
 abbrev pub kind_pieces : List ℕ → List Piece
-kind_pieces kind = let end = prefix_len (λ b. not (b == 40)) kind in spelled (take end kind) ++ inner_pieces (drop end kind)
+kind_pieces kind =
+    let end = prefix_len (λ b. not (b == 40)) kind in
+    spelled (take end kind) ++ inner_pieces (drop end kind)
 
 abbrev pub preference_pieces : Preference → List Piece
 preference_pieces p =

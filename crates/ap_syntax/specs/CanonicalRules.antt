@@ -47,7 +47,8 @@ abbrev pub item_pieces : BodyItem → List Piece
 item_pieces (Plain literal) = literal_pieces literal
 item_pieces (All at literal condition) = literal_pieces literal ++ spaced (codes ":") ++ literals_pieces condition
 item_pieces (Agg negated left function elements right) =
-    negation_pieces negated ++ left_pieces left ++ spelled (function_word function) ++ in_braces (semicolons (map agg_element_pieces elements)) ++ right_pieces right
+    negation_pieces negated ++ left_pieces left ++ spelled (function_word function)
+    ++ in_braces (semicolons (map agg_element_pieces elements)) ++ right_pieces right
 
 -- behind a conditional literal a comma would go on with its condition
 abbrev pub separator : BodyItem → List Piece
@@ -61,7 +62,8 @@ body_pieces (item ∷ next ∷ rest) = item_pieces item ++ separator item ++ bod
 
 abbrev pub head_pieces : HeadForm → List Piece
 head_pieces (One atom) = atom_pieces atom
-head_pieces (Choice left elements right) = left_pieces left ++ in_braces (semicolons (map choice_element_pieces elements)) ++ right_pieces right
+head_pieces (Choice left elements right) =
+    left_pieces left ++ in_braces (semicolons (map choice_element_pieces elements)) ++ right_pieces right
 head_pieces Nothing = []
 
 -- the head and the body; a rule without a head begins with `:-`

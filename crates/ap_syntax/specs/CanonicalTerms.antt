@@ -39,8 +39,8 @@ product_sign Times = codes "*"
 product_sign Over = codes "/"
 product_sign Rest = codes "\\"
 
--- What is written, and how closely it binds. Of terms: 0 an interval, 1 a sum, 2 a product, 3 a negation, 4 anything else. Of
--- formulas: 0 a disjunction, 1 a conjunction, 2 a negation, 3 an atom.
+-- What is written, and how closely it binds. Of terms: 0 an interval, 1 a sum, 2 a product, 3 a negation, 4 anything
+-- else. Of formulas: 0 a disjunction, 1 a conjunction, 2 a negation, 3 an atom.
 pub record Written : Type 0 where
   pub level : ℕ
   pub pieces : List Piece
@@ -69,9 +69,12 @@ term_step Term-F.Any = record { level = 4; pieces = spelled (codes "_") }
 term_step (Term-F.Fun name parts) = record { level = 4; pieces = applied name (map (at_least 0) parts) }
 term_step (Term-F.Tuple parts) = record { level = 4; pieces = in_parentheses (members (map (at_least 0) parts)) }
 term_step (Term-F.Minus part) = record { level = 3; pieces = spelled (codes "-") ++ at_least 4 part }
-term_step (Term-F.Sum left op right) = record { level = 1; pieces = at_least 1 left ++ spaced (sum_sign op) ++ at_least 2 right }
-term_step (Term-F.Product left op right) = record { level = 2; pieces = at_least 2 left ++ spaced (product_sign op) ++ at_least 3 right }
-term_step (Term-F.Range low high) = record { level = 0; pieces = at_least 1 low ++ spelled (codes "..") ++ at_least 1 high }
+term_step (Term-F.Sum left op right) =
+    record { level = 1; pieces = at_least 1 left ++ spaced (sum_sign op) ++ at_least 2 right }
+term_step (Term-F.Product left op right) =
+    record { level = 2; pieces = at_least 2 left ++ spaced (product_sign op) ++ at_least 3 right }
+term_step (Term-F.Range low high) =
+    record { level = 0; pieces = at_least 1 low ++ spelled (codes "..") ++ at_least 1 high }
 
 abbrev pub written : Term → Written
 written = fold-Term Written term_step

@@ -6,9 +6,9 @@ use sqlite_items::Items;
 /// The most items that are moved to another block.
 const FEW: usize = 16;
 
-/// The items of a list. The code asks for a block of their length; the contract sees the items alone, not the block. A few
-/// items are moved to a new one where there is memory for it, since a block that is shrunk leaves a rest behind that may be too
-/// small for what comes next.
+/// The items of a list. The code asks for a block of their length; the contract sees the items alone, not the block. A
+/// few items are moved to a new one where there is memory for it, since a block that is shrunk leaves a rest behind that may
+/// be too small for what comes next.
 pub fn fitted<T: Drop>(mut items: Vec<T>) -> Items<T>
     ensures { result ≡ items.items }
 {

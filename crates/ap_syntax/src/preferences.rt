@@ -3,8 +3,8 @@ use crate::terms::{Atom, Literal, Term};
 use crate::text::Text;
 use sqlite_items::{Boxed, Items};
 
-/// A formula over atoms, which an answer set satisfies or not. A formula in parentheses is that formula, so `(a & b) & c` is
-/// an `And` whose first member is an `And`.
+/// A formula over atoms, which an answer set satisfies or not. A formula in parentheses is that formula, so `(a & b) & c`
+/// is an `And` whose first member is an `And`.
 #[derive(Debug, Drop)]
 pub enum Formula {
     /// An atom.

@@ -1,8 +1,8 @@
 // The canonical text of programs.
-ghost use Rattle.std.specs.Prelude.{◌≡◌, [], ◌∷◌, ◌++◌, if◌then◌else◌, OnOk, OnErr, string_bytes};
-ghost use Rattle.ap_syntax.specs.declared.programs.PartKind.TheVariants.{Base};
-ghost use Rattle.ap_syntax.specs.Pieces.{Piece, text_of};
-ghost use Rattle.ap_syntax.specs.Canonical.{canonical_text, line_pieces, lines, part_behind, part_pieces, same_part, show_pieces, signature_pieces, statement_pieces};
+ghost use Rattle.std.specs.Prelude.{◌≡◌, ◌++◌, OnOk, OnErr, string_bytes};
+ghost use Rattle.std.specs.List.{flat_map};
+ghost use Rattle.ap_syntax.specs.Pieces.{text_of};
+ghost use Rattle.ap_syntax.specs.Canonical.{canonical_text, line_pieces, part_pieces, show_pieces, signature_pieces, statement_pieces};
 
 use crate::printed_preferences::{push_kind, push_preference};
 use crate::printed_rules::push_rule;
@@ -12,8 +12,8 @@ use crate::text::Text;
 use itoa::Buffer;
 use std::alloc::AllocError;
 
-/// Appends the canonical text of a program: one statement on each line, in order, without the `#program` directives that
-/// change nothing. The program begins in the part `base`. Fails only for want of memory, and then leaves `out` as it was.
+/// Appends the canonical text of a program: one statement on each line, in order, each `#program` among them. Fails only
+/// for want of memory, and then leaves `out` as it was.
 pub fn print_program(program: &Program, out: &mut String) -> Result<(), AllocError>
     ensures text { OnOk result (string_bytes out.new ≡ string_bytes out.old ++ canonical_text program.now) }
     ensures kept { OnErr result (string_bytes out.new ≡ string_bytes out.old) }
@@ -102,67 +102,14 @@ fn push_statement(statement: &Statement, out: &mut String) -> Result<(), AllocEr
     }
 }
 
-/// Whether two parts are the same.
-fn is_same_part(part: &PartKind, other: &PartKind) -> bool
-    ensures { result ≡ same_part part.now other.now }
-{
-    match (part, other) {
-        (PartKind::Base, PartKind::Base) => true,
-        (PartKind::Kind(kind), PartKind::Kind(other)) => *kind == *other,
-        _ => false,
-    }
-}
-
-/// The part that is open behind a statement.
-fn part_after<'a>(part: &'a PartKind, statement: &'a Statement) -> &'a PartKind
-    ensures { result.now ≡ part_behind part.now statement.now }
-{
-    match statement {
-        Statement::Part {
-            file: _,
-            at: _,
-            part: next,
-        } => next,
-        _ => part,
-    }
-}
-
-/// Whether the statement has a line where this part is open.
-fn has_line(part: &PartKind, statement: &Statement) -> bool
-    ensures { line_pieces part.now statement.now
-        ≡ (if result then statement_pieces statement.now ++ Piece.LineFeed ∷ [] else []) }
-{
-    match statement {
-        Statement::Part {
-            file: _,
-            at: _,
-            part: next,
-        } => !is_same_part(part, next),
-        _ => true,
-    }
-}
-
-/// Appends the line of a statement where this part is open.
-fn push_line(part: &PartKind, statement: &Statement, out: &mut String) -> Result<(), AllocError>
-    ensures { OnOk result (string_bytes out.new ≡ string_bytes out.old
-        ++ text_of (line_pieces part.now statement.now)) }
-{
-    if !has_line(part, statement) {
-        return Ok(());
-    }
-    push_statement(statement, out)?;
-    out.push_str("\n")
-}
-
-/// Appends the lines of statements, which begin in the part `base`.
+/// Appends the lines of statements.
 fn push_lines(statements: &[Statement], out: &mut String) -> Result<(), AllocError>
-    ensures { OnOk result (string_bytes out.new ≡ string_bytes out.old ++ text_of (lines Base statements.now)) }
+    ensures { OnOk result (string_bytes out.new ≡ string_bytes out.old
+        ++ text_of (flat_map line_pieces statements.now)) }
 {
-    let base = PartKind::Base;
-    let mut part = &base;
     for statement in statements {
-        push_line(part, statement, out)?;
-        part = part_after(part, statement);
+        push_statement(statement, out)?;
+        out.push_str("\n")?;
     }
     Ok(())
 }

@@ -1,5 +1,5 @@
 // Statements and programs.
-ghost use Rattle.std.specs.Prelude.{◌≡◌, [], ◌∷◌, ◌++◌, MatchOption, OnOk};
+ghost use Rattle.std.specs.Prelude.{◌≡◌, [], ◌∷◌, ◌++◌, MatchOption, OnOk, OnErr};
 
 use crate::preferences::Preference;
 use crate::rules::Rule;
@@ -103,15 +103,17 @@ impl Statements {
         self.list.as_slice()
     }
 
-    /// Moves the statements of `more` to the end.
+    /// Moves the statements of `more` to the end. Fails only for want of memory, and then leaves these as they were.
     pub fn append(&mut self, more: Statements) -> Result<(), AllocError>
-        ensures { OnOk result (self.new ≡ self.old ++ more) }
+        ensures joined { OnOk result (self.new ≡ self.old ++ more) }
+        ensures kept { OnErr result (self.new ≡ self.old) }
     {
         let Statements { mut list } = more;
         self.list.append(&mut list)
     }
 
-    /// Takes the last statement, if there is one. What is not used of the block is given back as soon as it is more than an eighth.
+    /// Takes the last statement, if there is one. What is not used of the block is given back as soon as it is more than an
+    /// eighth.
     pub fn pop(&mut self) -> Option<Statement>
         ensures { MatchOption result ((self.old ≡ []) × (self.new ≡ [])) (λ last. self.old ≡ self.new ++ last ∷ []) }
     {

@@ -2,8 +2,8 @@
 use crate::terms::{Atom, Literal, Rel, Term};
 use sqlite_items::{Boxed, Items};
 
-/// One side of an aggregate or of a choice, to which its number is compared. The relation and the term stand as they are
-/// written: on the left the term is before the relation, on the right behind it. A guard without a sign reads `<=`.
+/// One side of an aggregate or of a choice, to which its number is compared. The relation and the term stand as they
+/// are written: on the left the term is before the relation, on the right behind it. A guard without a sign reads `<=`.
 #[derive(Debug, Drop)]
 pub struct Guard {
     /// The relation, read from left to right.

@@ -66,8 +66,8 @@ pub enum Term {
     Range(Boxed<Term>, Boxed<Term>),
 }
 
-/// A term is let go by a loop along its first operands: a chain of operators, as `1 + 2 + 3`, is as deep as it is long, and a call for each of
-/// its operands could use up the stack.
+/// A term is let go by a loop along its first operands: a chain of operators, as `1 + 2 + 3`, is as deep as it is long, and
+/// a call for each of its operands could use up the stack.
 impl Drop for Term {
     fn drop(mut self) {
         loop {
@@ -108,7 +108,8 @@ pub struct Atom {
     pub terms: Items<Term>,
 }
 
-/// An atom, an atom under default negation, or a comparison. The terms of a comparison are boxed, so that a plain literal is small.
+/// An atom, an atom under default negation, or a comparison. The terms of a comparison are boxed, so that a plain literal is
+/// small.
 #[derive(Debug, Drop)]
 pub enum Literal {
     /// An atom.

@@ -128,8 +128,8 @@ fn prints_operators(rt: HostRuntime) -> Result<(), Fail> {
     let statements = Statements::fitted(operators(alloc)?);
     let mut out = String::new(alloc);
     print_program(&Program { statements }, &mut out)?;
-    let text =
-        "#const c = -(-1).\n#const c = 1 - (2 - 3).\n#const c = 1 - 2 - 3.\n#const c = a * (_ + \"\\\"\").\n#const c = 1..2 + 3.\n";
+    let text = "#const c = -(-1).\n#const c = 1 - (2 - 3).\n#const c = 1 - 2 - 3.\n\
+        #const c = a * (_ + \"\\\"\").\n#const c = 1..2 + 3.\n";
     assert_eq!(rt; out.as_str(), text);
     Ok(())
 }
@@ -210,7 +210,7 @@ fn opened(part: PartKind) -> Statement {
     }
 }
 
-/// A rule, another one in a part of its own, and back.
+/// A rule, a `#program` that changes nothing, a rule in a part of its own, and back.
 fn two_parts(alloc: Global) -> Result<Vec<Statement>, AllocError> {
     let mut statements = Vec::new(alloc);
     statements.push(plain_rule(alloc)?)?;
@@ -231,8 +231,9 @@ fn prints_rules(rt: HostRuntime) -> Result<(), Fail> {
     let statements = Statements::fitted(two_parts(alloc)?);
     let mut out = String::new(alloc);
     print_program(&Program { statements }, &mut out)?;
-    let text =
-        "p(X) :- q(X), not r(X).\n#program preference(less(weight)).\n1 <= {p(X) : q(X), not r(X)} != () :- q(X) : q(X), not r(X); not r(X).\n#program base.\n#const c = (1, ).\n";
+    let text = "p(X) :- q(X), not r(X).\n#program base.\n#program preference(less(weight)).\n\
+        1 <= {p(X) : q(X), not r(X)} != () :- q(X) : q(X), not r(X); not r(X).\n#program base.\n\
+        #const c = (1, ).\n";
     assert_eq!(rt; out.as_str(), text);
     Ok(())
 }

@@ -7,8 +7,8 @@ use std::alloc::{AllocError, Global};
 use std::cmp::Ordering;
 use std::marker::Model;
 
-/// Where the bytes of a text stand. Those of a short one stand in the value itself, so that most names need no block of their
-/// own; a long one is boxed, so that the value is no larger for it.
+/// Where the bytes of a text stand. Those of a short one stand in the value itself, so that most names need no block of
+/// their own; a long one is boxed, so that the value is no larger for it.
 #[derive(Debug, Drop)]
 enum Spelling {
     /// At most eight bytes.
@@ -17,8 +17,8 @@ enum Spelling {
     Long(Boxed<String>),
 }
 
-/// A text, which contracts see as its bytes. Texts are ordered by their bytes, a proper prefix first. One of at most eight bytes
-/// needs no memory beside its own 24 bytes.
+/// A text, which contracts see as its bytes. Texts are ordered by their bytes, a proper prefix first. One of at most eight
+/// bytes needs no memory beside its own 24 bytes.
 #[derive(Debug, Drop)]
 pub struct Text {
     spelling: Spelling,

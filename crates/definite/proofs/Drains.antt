@@ -1,9 +1,9 @@
 -- The start of the search, one atom of the order that is taken, and the end.
-use Rattle.std.proofs.Common.{◌≡◌, ◌≢◌, ℕ, zero, suc, replicate, ◌+◌, ◌*◌, ◌<◌, ◌≤◌, Bool, true, false, not, ◌||◌, cond, List, [], ◌∷◌, length, take, get_or, refl, sym, ap, ◌∙◌, subst, arith, ⊎_elim, inl, inr}
+use Rattle.std.proofs.Common.{◌≡◌, ℕ, zero, suc, replicate, ◌+◌, ◌*◌, ◌<◌, ◌≤◌, Bool, true, false, not, ◌||◌, cond, List, [], length, take, get_or, refl, sym, ap, ◌∙◌, subst, arith, ⊎_elim, inl, inr}
 use Rattle.std.specs.Prelude.{All, Contains, IsTrue, ◌⊎◌, slice_get, Some}
 use Rattle.std.specs.List.{list_all}
 use Rattle.std.specs.Global.{Vec}
-use Rattle.std.proofs.lemmas.Bool.{false≢true, cases_eq, cases_lt, cases_Bool}
+use Rattle.std.proofs.lemmas.Bool.{cases_eq, cases_lt, cases_Bool}
 use Rattle.std.proofs.lemmas.List.{get_or_past, take_all, length-replicate}
 use Rattle.std.proofs.lemmas.List.Sums.{AllPass-from_list_all, list_all-from_AllPass}
 use Rattle.std.proofs.lemmas.List.Elements.{All-more, All-weaker, All-contains, All-same}
@@ -12,25 +12,19 @@ use Rattle.std.proofs.lemmas.Option.{slice_get-get_or}
 use Rattle.definite.specs.declared.Rule.{Rule}
 use Rattle.definite.specs.declared.Derived.{Derived}
 use Rattle.definite.specs.declared.search.Waits.{Waits}
-use Rattle.definite.specs.Rules.{marked, obeys, IsRuleOf, IsDerived}
+use Rattle.sets.proofs.SetLemmas.{none_marked}
+use Rattle.sets.specs.Sets.{marked}
+use Rattle.definite.specs.Rules.{obeys, IsRuleOf, IsDerived}
 use Rattle.definite.specs.Searches.{IsSearch, waiting_for, IsTaken, IsSettled, AreSettled, IsDrained, Step}
 use Rattle.definite.proofs.Orders.{derivation_none, derived_in}
 
 none_in : (k : ℕ) → Contains {X = ℕ} [] k → ⊥
 none_in k m = let bad : m.0 < 0 = m.1 in omega arith
 
-pub marked_within : (y : List Bool) (a : ℕ) → IsTrue (marked y a) → a < length y
-marked_within y a h = ⊎_elim (λ (lt : a < length y). lt) (λ (past : length y ≤ a). absurd (false≢true (sym (get_or_past y a false past) ∙ h))) (cases_lt a (length y))
-
 -- ---- the start
 
 pub nobody : (lists : List (List ℕ)) → All (λ (list : List ℕ). list ≡ []) lists → (a : ℕ) → get_or lists a [] ≡ []
 nobody lists h a = ⊎_elim (λ (lt : a < length lists). h a [] lt) (λ (past : length lists ≤ a). get_or_past lists a [] past) (cases_lt a (length lists))
-
-none_marked : (n a : ℕ) (P : Type 0) → IsTrue (marked (replicate n false) a) → P
-none_marked zero a P h = absurd (false≢true h)
-none_marked (suc n) zero P h = absurd (false≢true h)
-none_marked (suc n) (suc a) P h = none_marked n a P h
 
 none_met : (n k : ℕ) → ◌≡◌ {A = ℕ} (get_or (replicate n 0) k 0) 0
 none_met zero k = refl
@@ -46,7 +40,7 @@ search_start rules w d atoms range marks order size none met =
     let length_marks : length d.marks ≡ atoms = ap length marks ∙ length-replicate atoms false in record {
       range = subst (λ n. All (IsRuleOf n) rules) (sym length_marks) range;
       order = subst (Rattle.definite.specs.Rules.IsDerivation rules) (sym order) (derivation_none rules);
-      in_order = λ a h. none_marked atoms a (Contains d.order a) (subst (λ ms. IsTrue (marked ms a)) marks h);
+      in_order = λ a h. absurd (none_marked atoms a (subst (λ ms. IsTrue (marked ms a)) marks h));
       in_marks = λ a m. absurd (none_in a (subst (λ xs. Contains xs a) order m));
       count =
           let weight : Bool → ℕ = λ b. cond b 1 0 in

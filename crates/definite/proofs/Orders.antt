@@ -1,10 +1,10 @@
 -- Atoms in an order in which they can be derived.
-use Rattle.std.proofs.Common.{◌≡◌, ◌≢◌, ℕ, ◌+◌, ◌<◌, ◌≤◌, Bool, List, [], ◌∷◌, ◌++◌, length, take, get_or, refl, sym, ap, ◌∙◌, subst, arith, zero, suc, ⊎_elim, not, ◌||◌, true, false}
+use Rattle.std.proofs.Common.{◌≡◌, ◌≢◌, ℕ, ◌+◌, ◌<◌, ◌≤◌, Bool, List, [], ◌∷◌, ◌++◌, length, take, get_or, sym, subst, arith, zero, suc, ⊎_elim, not, ◌||◌, true, false}
 use Rattle.std.specs.Prelude.{All, Contains, IsTrue}
-use Rattle.std.specs.List.{list_all, Any, AllPairs}
-use Rattle.std.proofs.lemmas.Bool.{cases_lt, and_parts, and_from, false≢true}
-use Rattle.std.proofs.lemmas.List.{take-append-le, take_more, take_all, get_or_append_left, get_or_push, length_push, take_at}
-use Rattle.std.proofs.lemmas.List.Elements.{All-contains, All-contains_itself, All-get_or, All-same, All-more, Contains-get_or, All-nil}
+use Rattle.std.specs.List.{list_all}
+use Rattle.std.proofs.lemmas.Bool.{cases_lt, false≢true}
+use Rattle.std.proofs.lemmas.List.{take-append-le, take_all, get_or_append_left, get_or_push, length_push, take_at}
+use Rattle.std.proofs.lemmas.List.Elements.{All-contains, All-same, All-more, Contains-get_or, All-nil}
 use Rattle.std.proofs.lemmas.List.Quantifiers.{all_pairs_push}
 use Rattle.std.proofs.lemmas.List.Sums.{AllPass-from_list_all, list_all-from_AllPass}
 use Rattle.definite.specs.declared.Rule.{Rule}

@@ -1,18 +1,20 @@
 -- Steps of the search.
-use Rattle.std.proofs.Common.{◌≡◌, ◌≢◌, ℕ, zero, suc, replicate, ◌+◌, ◌*◌, ◌<◌, ◌≤◌, Bool, true, false, not, ◌&&◌, cond, List, [], ◌∷◌, ◌++◌, length, take, get_or, refl, sym, ap, ◌∙◌, subst, arith, ⊎_elim, inl, inr, slice_set, get_or-set_other, get_or-set_same, length-append, length-set}
-use Rattle.std.specs.Prelude.{All, Contains, IsTrue, IsFalse, ◌⊎◌, slice_get, Some}
+use Rattle.std.proofs.Common.{◌≡◌, ◌≢◌, ℕ, ◌+◌, ◌<◌, ◌≤◌, Bool, true, false, cond, List, [], ◌∷◌, ◌++◌, length, take, get_or, refl, sym, ap, ◌∙◌, subst, arith, ⊎_elim, inl, inr, slice_set, get_or-set_other, get_or-set_same, length-append, length-set}
+use Rattle.std.specs.Prelude.{All, Contains, IsTrue, IsFalse, slice_get, Some}
 use Rattle.std.specs.List.{list_all}
 use Rattle.std.specs.Global.{Vec}
-use Rattle.std.proofs.lemmas.Bool.{false≢true, cases_eq, cases_Bool, and_parts, and_from}
+use Rattle.std.proofs.lemmas.Bool.{false≢true, cases_eq, cases_Bool, and_from}
 use Rattle.std.proofs.lemmas.List.{take-append-le, take_more, set-get_or}
 use Rattle.std.proofs.lemmas.List.Sums.{sum_by-set, AllPass-from_list_all}
 use Rattle.std.proofs.lemmas.List.Elements.{Contains-append_left, Contains-push, Contains-push_cases, All-contains, All-same, All-take, All-contains_itself}
-use Rattle.std.proofs.lemmas.List.Folds.{sum_by-replicate, list_all_more}
+use Rattle.std.proofs.lemmas.List.Folds.{list_all_more}
 use Rattle.std.proofs.lemmas.Option.{slice_get-get_or}
 use Rattle.definite.specs.declared.Rule.{Rule}
 use Rattle.definite.specs.declared.Derived.{Derived}
 use Rattle.definite.specs.declared.search.Waits.{Waits}
-use Rattle.definite.specs.Rules.{marked, Follows, IsRuleOf}
+use Rattle.sets.proofs.SetLemmas.{still_marked, list_all-subset}
+use Rattle.sets.specs.Sets.{marked}
+use Rattle.definite.specs.Rules.{Follows, IsRuleOf}
 use Rattle.definite.specs.Searches.{IsSearch, waiting_for, met_by, IsAdded, IsWaiter, IsSettled, Step}
 use Rattle.definite.proofs.Orders.{derivation_push}
 
@@ -30,18 +32,8 @@ step_then rules w0 w1 w2 d0 d1 d2 a b = record {
 
 -- ---- a mark more
 
-pub still_marked : (y : List Bool) (a c : ℕ) → a < length y → IsTrue (marked y c) → IsTrue (marked (slice_set y a true) c)
-still_marked y a c lt h = ⊎_elim
-    (λ (e : c ≡ a). subst (λ n. IsTrue (marked (slice_set y a true) n)) (sym e) (get_or-set_same y a true false lt))
-    (λ (ne : c ≡ a → ⊥). get_or-set_other y a c true false ne ∙ h)
-    (cases_eq c a)
-
-pub all_more : (y z : ℕ → Bool) → ((c : ℕ) → IsTrue (y c) → IsTrue (z c)) → (xs : List ℕ) → IsTrue (list_all y xs) → IsTrue (list_all z xs)
-all_more y z s [] t = refl
-all_more y z s (x ∷ xs) t = let p = and_parts (y x) (list_all y xs) t in and_from (z x) (list_all z xs) (s x p.0) (all_more y z s xs p.1)
-
 pub added_marked : (d0 d1 : Derived) (a c : ℕ) → IsAdded d0 d1 a → a < length d0.marks → IsTrue (marked d0.marks c) → IsTrue (marked d1.marks c)
-added_marked d0 d1 a c add lt h = subst (λ ms. IsTrue (marked ms c)) (sym add.marks) (still_marked d0.marks a c lt h)
+added_marked d0 d1 a c add lt h = subst (λ ms. IsTrue (marked ms c)) (sym add.marks) (still_marked d0.marks a lt c h)
 
 pub added_here : (d0 d1 : Derived) (a : ℕ) → IsAdded d0 d1 a → a < length d0.marks → IsTrue (marked d1.marks a)
 added_here d0 d1 a add lt = subst (λ ms. IsTrue (marked ms a)) (sym add.marks) (get_or-set_same d0.marks a true false lt)
@@ -56,16 +48,16 @@ step_new rules w d a lt off follows = record {
         (λ (ne : c ≡ a → ⊥). Contains-append_left d.order (a ∷ []) c (s.in_order c (sym (get_or-set_other d.marks a c true false ne) ∙ h)))
         (cases_eq c a);
     in_marks = λ c m. ⊎_elim
-        (λ (old : Contains d.order c). still_marked d.marks a c lt (s.in_marks c old))
+        (λ (old : Contains d.order c). still_marked d.marks a lt c (s.in_marks c old))
         (λ (e : a ≡ c). subst (λ n. IsTrue (marked (slice_set d.marks a true) n)) e (get_or-set_same d.marks a true false lt))
         (Contains-push_cases d.order a c m);
     count = let weight : Bool → ℕ = λ b. cond b 1 0 in let count = sum_by-set weight d.marks a true false lt in let zero : weight (get_or d.marks a false) ≡ weight false = ap weight off in omega (arith, count, zero, s.count, length-append d.order (a ∷ []));
-    met = λ k rule e. all_more (marked d.marks) (marked (slice_set d.marks a true)) (λ c t. still_marked d.marks a c lt t) (take (met_by w k) rule.body) (s.met k rule e);
+    met = λ k rule e. list_all-subset (marked d.marks) (marked (slice_set d.marks a true)) (take (met_by w k) rule.body) (still_marked d.marks a lt) (s.met k rule e);
     numbers = s.numbers;
     waiting_size = s.waiting_size ∙ sym (length-set d.marks a true);
     met_size = s.met_size;
   };
-  kept = λ k rule s. ⊎_elim (λ h. inl (all_more (marked d.marks) (marked (slice_set d.marks a true)) (λ c t. still_marked d.marks a c lt t) rule.heads h)) (λ b. inr b) s;
+  kept = λ k rule s. ⊎_elim (λ h. inl (list_all-subset (marked d.marks) (marked (slice_set d.marks a true)) rule.heads (still_marked d.marks a lt) h)) (λ b. inr b) s;
   drained = λ n le s h. All-same (λ b. waiting_for w b ≡ []) (take n (d.order ++ a ∷ [])) (take n d.order) (take-append-le n d.order (a ∷ []) le) h;
   longer = omega (arith, length-append d.order (a ∷ []));
   size = length-set d.marks a true;
@@ -91,7 +83,7 @@ pub heads_more : (d0 d1 : Derived) (heads : List ℕ) (i : ℕ) → i < length h
 heads_more d0 d1 heads i lt add in_marks before =
     let a : ℕ = get_or heads i 0 in
     list_all_more (marked d1.marks) heads i 0 lt ∙ and_from (list_all (marked d1.marks) (take i heads)) (marked d1.marks a)
-    (all_more (marked d0.marks) (marked d1.marks) (λ c t. added_marked d0 d1 a c add in_marks t) (take i heads) before)
+    (list_all-subset (marked d0.marks) (marked d1.marks) (take i heads) (λ c t. added_marked d0 d1 a c add in_marks t) before)
     (added_here d0 d1 a add in_marks)
 
 -- a head follows where the body is marked

@@ -1,10 +1,11 @@
 -- What holds while the least set is searched for.
-use Rattle.std.specs.Prelude.{◌≡◌, ◌≢◌, ℕ, ◌<◌, ◌≤◌, Bool, true, List, [], ◌∷◌, ◌++◌, length, Some, take, slice_get, slice_set, slice_index_or, All, Contains, IsTrue, count_by, ◌⊎◌, if◌then◌else◌}
+use Rattle.std.specs.Prelude.{◌≡◌, ◌≢◌, ℕ, ◌<◌, ◌≤◌, true, List, [], ◌∷◌, ◌++◌, length, Some, take, slice_get, slice_set, slice_index_or, All, Contains, IsTrue, count_by, ◌⊎◌, if◌then◌else◌}
 use Rattle.std.specs.List.{list_all}
 use Rattle.definite.specs.declared.Rule.{Rule}
 use Rattle.definite.specs.declared.Derived.{Derived}
 use Rattle.definite.specs.declared.search.Waits.{Waits}
-use Rattle.definite.specs.Rules.{marked, IsDerivation, IsRuleOf}
+use Rattle.definite.specs.Rules.{IsDerivation, IsRuleOf}
+use Rattle.sets.specs.Sets.{marked}
 
 -- the rules that wait for an atom
 abbrev pub waiting_for : Waits → ℕ → List ℕ

@@ -1,5 +1,6 @@
 -- A ground program as contracts see it: its five lists.
-use Rattle.std.specs.Prelude.{ℕ, zero, suc, List, Option, None, slice_get}
+use Rattle.std.specs.Prelude.{List}
+pub use Rattle.sets.specs.Lists.{numbered}
 use Rattle.ap_term.specs.declared.shape.TermId.{TermId}
 use Rattle.ground_form.specs.declared.atoms.AtomId.{AtomId}
 use Rattle.ground_form.specs.declared.rules.GroundRule.{GroundRule}
@@ -12,8 +13,3 @@ pub record Parts : Type 0 where
   pub bodies : List Body
   pub groups : List Group
   pub inputs : List AtomId
-
--- what has this number in a list that is counted from 1
-abbrev pub numbered : {X : Type 0} → List X → ℕ → Option X
-numbered xs zero = None
-numbered xs (suc place) = slice_get xs place

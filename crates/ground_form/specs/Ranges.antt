@@ -1,6 +1,7 @@
 -- What every ground program meets: its numbers are in range, no atom stands twice, and the sums of its groups are small.
-use Rattle.std.specs.Prelude.{◌≢◌, ℕ, suc, ℤ, pos, negsuc, neg_ℤ, ◌<◌, ◌≤◌, ◌^◌, ◌≤ℤ◌, ◌==◌, ◌&&◌, Bool, false, ⊤, List, All, Option, Some, None, is_some, IsTrue, IfSome, IsSomeAnd, length, sum_by, unsigned_abs, if◌then◌else◌}
+use Rattle.std.specs.Prelude.{◌≢◌, ℕ, suc, ℤ, pos, negsuc, neg_ℤ, ◌<◌, ◌^◌, ◌≤ℤ◌, ◌==◌, ◌&&◌, Bool, false, ⊤, List, All, Option, Some, None, is_some, IsTrue, IfSome, IsSomeAnd, length, sum_by, unsigned_abs, if◌then◌else◌}
 use Rattle.std.specs.List.{AllPairs}
+pub use Rattle.sets.specs.Lists.{IsNumberOf}
 use Rattle.ap_term.specs.declared.shape.TermId.{TermId}
 use Rattle.ground_form.specs.declared.atoms.AtomId.{AtomId}
 use Rattle.ground_form.specs.declared.bodies.Body.{Body}
@@ -13,10 +14,6 @@ use Rattle.ground_form.specs.declared.rules.GroundRule.{GroundRule}
 use Rattle.ground_form.specs.declared.rules.Head.{Head}
 use Rattle.ground_form.specs.declared.rules.Head.TheVariants.{One, Choice, Nothing}
 use Rattle.ground_form.specs.Programs.{Parts, numbered}
-
--- a number in a list of n members that is counted from 1
-abbrev pub IsNumberOf : ℕ → ℕ → Type 0
-IsNumberOf n k = (0 < k) × (k ≤ n)
 
 -- a literal is the number of one of n atoms, or the negative of one
 abbrev pub IsLiteralOf : ℕ → ℤ → Type 0

@@ -1,8 +1,9 @@
-use Rattle.std.proofs.Common.{◌≡◌, ◌<◌, ℕ, List, length, get_or, sym, ap, ◌∙◌, subst, length-set, true}
+use Rattle.std.proofs.Common.{◌<◌, ℕ, List, length, get_or, sym, ap, ◌∙◌, subst, length-set, true}
 use Rattle.std.specs.Prelude.{Contains}
 use Rattle.std.proofs.lemmas.List.Elements.{All-contains, Contains-get_or}
-use Rattle.definite.specs.Rules.{marked}
-use Rattle.definite.proofs.Steps.{step_then, step_added, added_marked, heads_more, rule_follows, all_more}
+use Rattle.sets.specs.Sets.{marked}
+use Rattle.sets.proofs.SetLemmas.{list_all-subset}
+use Rattle.definite.proofs.Steps.{step_then, step_added, added_marked, heads_more, rule_follows}
 use Rattle.definite.proofs.search.add_heads.Goals as goal
 
 pub loop-atom-preserved : goal.loop-atom-preserved
@@ -22,7 +23,7 @@ loop-atom-preserved c =
       more = λ b h. added_marked d1 d2 a b add lt (i.more b h);
       step = λ rules waits m s body.
           let before = i.step rules waits m s body in
-          let now = all_more (marked d0.marks) (marked d1.marks) i.more rule.body body in
+          let now = list_all-subset (marked d0.marks) (marked d1.marks) rule.body i.more body in
           step_then rules waits waits waits d0 d1 d2 before (step_added rules waits d1 d2 a add lt (rule_follows rules waits d1 rule a m at (before.search s) now));
       marked = heads_more d1 d2 heads c.loop-atom.atom-index c.loop-atom-test.true add lt i.marked;
     }

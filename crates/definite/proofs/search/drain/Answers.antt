@@ -1,8 +1,8 @@
-use Rattle.std.proofs.Common.{◌≡◌, ◌<◌, ◌≤◌, ℕ, List, length, get_or, sym, ap, ◌∙◌, subst, arith}
+use Rattle.std.proofs.Common.{◌<◌, ℕ, List, length, get_or, ap, ◌∙◌, subst, arith}
 use Rattle.std.specs.Prelude.{Contains}
 use Rattle.std.proofs.lemmas.List.Elements.{Contains-get_or}
-use Rattle.definite.specs.Searches.{waiting_for}
-use Rattle.definite.proofs.Drains.{marked_within, taken_search, taken_settled, taken_drained, drained_derived}
+use Rattle.sets.proofs.SetLemmas.{marked_within}
+use Rattle.definite.proofs.Drains.{taken_search, taken_settled, taken_drained, drained_derived}
 use Rattle.definite.proofs.search.drain.Goals as goal
 
 pub take_waiting-list-requires : goal.take_waiting-list-requires

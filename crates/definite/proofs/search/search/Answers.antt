@@ -1,4 +1,4 @@
-use Rattle.std.proofs.Common.{◌≡◌, ◌∙◌}
+use Rattle.std.proofs.Common.{◌∙◌}
 use Rattle.definite.proofs.Drains.{search_start}
 use Rattle.definite.proofs.search.search.Goals as goal
 

@@ -1,0 +1,17 @@
+pub mod Derived
+pub mod Literals
+pub mod Rows
+pub mod Guards
+pub mod Uses
+pub mod Bodies
+pub mod Same
+pub mod Lookup
+pub mod Instances
+pub mod Derives
+pub mod Permits
+pub mod Values
+pub mod Answers
+pub mod Unique
+pub mod Pairs
+pub mod One
+pub mod Example

@@ -1,0 +1,35 @@
+-- Lists of literals by number, cut to the atoms that have a number.
+use Rattle.std.specs.Prelude.{◌*◌, ◌≡◌, ◌↔◌, ℕ, suc, ℤ, pos, negsuc, List, AllPairs, Contains, Some, IsTrue, All}
+use Rattle.std.specs.Ordering.{is_lt}
+use Rattle.std.specs.Cmp.Lexicographic.{slice_cmp}
+use Rattle.std.specs.declared.cmp.Ordering.{Ordering}
+use Rattle.std.specs.Ordering.{nat_cmp}
+use Rattle.ap_term.specs.Value.{Value}
+use Rattle.ground_form.specs.Programs.{numbered}
+use Rattle.rule_form.specs.Possible.{Setting, IsPossible, IsCertain}
+
+-- the atom has this number
+abbrev pub IsAtomNumber : List Value → ℕ → Value → Type 0
+IsAtomNumber atoms k b = numbered atoms k ≡ Some b
+
+-- the place of a literal: by atom, the positive one first
+abbrev pub literal_place : ℤ → ℕ
+literal_place (pos k) = k * 2
+literal_place (negsuc k) = suc (suc k * 2)
+
+abbrev pub literal_cmp : ℤ → ℤ → Ordering
+literal_cmp c d = nat_cmp (literal_place c) (literal_place d)
+
+abbrev pub literals_cmp : List ℤ → List ℤ → Ordering
+literals_cmp = slice_cmp literal_cmp
+
+-- the literals over atoms with a number, each once and in order
+pub record AreGroundLiterals (atoms : List Value) (asked barred : Value → Type 0) (cs : List ℤ) : Type 0 where
+  pub positive : (k : ℕ) → Contains cs (pos k) ↔ ((b : Value) × asked b × IsAtomNumber atoms k b)
+  pub negative : (k : ℕ) → Contains cs (negsuc k) ↔ ((b : Value) × barred b × IsAtomNumber atoms (suc k) b)
+  pub ordered : AllPairs (λ c d. IsTrue (is_lt (literal_cmp c d))) cs
+
+-- a condition exists: its positive atoms are possible, and no negative literal is over an atom that is certain in a lower component
+pub record Exists (setting : Setting) (lower : Value → Type 0) (ps ns : List Value) : Type 0 where
+  pub positive : All (IsPossible setting) ps
+  pub negative : All (λ b. lower b → IsCertain setting b → ⊥) ns

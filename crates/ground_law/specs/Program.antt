@@ -1,0 +1,87 @@
+-- The ground program that a grounder answers: one alone.
+use Rattle.std.specs.Prelude.{pos, ◌≡◌, ◌↔◌, ℕ, suc, ◌+◌, ◌*◌, Bool, true, false, List, [], ◌∷◌, ◌++◌, map, length, AllPairs, Contains, Some, None, IsTrue, if◌then◌else◌}
+use Rattle.std.specs.Ordering.{is_lt, nat_cmp}
+use Rattle.std.specs.declared.cmp.Ordering.{Ordering}
+use Rattle.std.specs.Cmp.Lexicographic.{slice_cmp}
+use Rattle.ap_term.specs.Order.{value_cmp}
+use Rattle.ap_term.specs.Table.{value_at}
+use Rattle.ap_term.specs.Value.{Value, integer}
+use Rattle.rule_form.specs.Instances.{Instance}
+use Rattle.ground_law.specs.Ground.{IsGrounding}
+use Rattle.ground_law.specs.Literals.{literal_place, IsAtomNumber}
+use Rattle.ground_form.specs.declared.atoms.AtomId.{AtomId}
+use Rattle.ground_form.specs.declared.bodies.Body.{Body}
+use Rattle.ground_form.specs.declared.bodies.GuardUse.{GuardUse}
+use Rattle.ground_form.specs.declared.rules.GroundRule.{GroundRule}
+use Rattle.ground_form.specs.declared.rules.Head.{Head}
+use Rattle.ground_form.specs.declared.rules.Head.TheVariants.{One, Choice, Nothing}
+use Rattle.ground_form.specs.Programs.{Parts, numbered}
+use Rattle.rule_form.specs.Possible.{Setting}
+use Rattle.rule_form.specs.Trees as trees
+
+-- ---- the order of instances, and where their groups begin
+
+-- by the number of the rule, then by the list of values
+abbrev pub found_key : Instance → List Value
+found_key i = integer (pos i.place) ∷ i.outer
+
+abbrev pub found_cmp : Instance → Instance → Ordering
+found_cmp i j = slice_cmp value_cmp (found_key i) (found_key j)
+
+abbrev pub choice_groups : trees.Head → ℕ
+choice_groups (trees.One atom) = 0
+choice_groups (trees.Choice None elements None) = 0
+choice_groups (trees.Choice (Some left) elements right) = 1
+choice_groups (trees.Choice None elements (Some right)) = 1
+choice_groups trees.Nothing = 0
+
+abbrev pub groups_count : Instance → ℕ
+groups_count i = choice_groups i.rule.head + length i.aggregates
+
+abbrev pub placed_from : ℕ → List Instance → List (Instance × ℕ)
+placed_from k [] = []
+placed_from k (i ∷ found) = (i, k) ∷ placed_from (k + groups_count i) found
+
+abbrev pub groups_of : List Instance → ℕ
+groups_of [] = 0
+groups_of (i ∷ found) = groups_count i + groups_of found
+
+-- ---- the order of bodies: literals over atoms, then the literal that is always true or never, then those over guards
+
+abbrev pub put_if : Bool → List ℕ → List (List ℕ) → List (List ℕ)
+put_if true key keys = key ∷ keys
+put_if false key keys = keys
+
+abbrev pub guard_key : ℕ → GuardUse → List ℕ
+guard_key n guarded = (n + 2) * 2 ∷ guarded.group ∷ guarded.guard ∷ (if guarded.yes then 0 else 1) ∷ []
+
+abbrev pub body_keys : ℕ → Body → List (List ℕ)
+body_keys n body = map (λ c. literal_place c ∷ []) body.lits
+    ++ put_if body.always ((n + 1) * 2 ∷ []) (put_if body.never (suc ((n + 1) * 2) ∷ []) (map (guard_key n) body.guards))
+
+abbrev pub body_cmp : ℕ → Body → Body → Ordering
+body_cmp n b c = slice_cmp (slice_cmp nat_cmp) (body_keys n b) (body_keys n c)
+
+-- ---- the order of rules: by the kind of the head, its atom and the body
+
+abbrev pub head_key : Head → List ℕ
+head_key (One a) = 0 ∷ a.0 ∷ []
+head_key (Choice a) = 1 ∷ a.0 ∷ []
+head_key Nothing = 2 ∷ 0 ∷ []
+
+abbrev pub rule_cmp : GroundRule → GroundRule → Ordering
+rule_cmp r s = slice_cmp nat_cmp (head_key r.head ++ r.body.0 ∷ []) (head_key s.head ++ s.body.0 ∷ [])
+
+-- g is the ground program, over a table of values
+pub record IsGroundProgram (table : List Value) (setting : Setting) (g : Parts) : Type 0 where
+  pub found : List Instance
+  pub in_order : AllPairs (λ i j. IsTrue (is_lt (found_cmp i j))) found
+  pub grounding : IsGrounding setting g (map (value_at table) g.atoms) (placed_from 1 found)
+  pub all_groups : length g.groups ≡ groups_of found
+  pub rules_ordered : AllPairs (λ r s. IsTrue (is_lt (rule_cmp r s))) g.rules
+  pub bodies_ordered : AllPairs (λ b c. IsTrue (is_lt (body_cmp (length g.atoms) b c))) g.bodies
+  pub bodies_used : (k : ℕ) (b : Body) → numbered g.bodies k ≡ Some b → (r : GroundRule) × Contains g.rules r
+      × (r.body.0 ≡ k)
+  pub inputs : (a : AtomId) → Contains g.inputs a
+      ↔ ((v : Value) × Contains setting.inputs v × IsAtomNumber (map (value_at table) g.atoms) a.0 v)
+  pub inputs_ordered : AllPairs (λ (a b : AtomId). IsTrue (is_lt (nat_cmp a.0 b.0))) g.inputs
