@@ -11,7 +11,7 @@ use Rattle.definite.specs.Rules.{obeys, IsRuleOf, marked, IsLeast}
 use Rattle.ap_pieces.specs.declared.variables.Occurrence.{Occurrence}
 use Rattle.ap_bindings.specs.declared.names.NameTable.{NameTable}
 use Rattle.ap_pieces.specs.declared.pieces.Mention.{Mention}
-use Rattle.ap_bindings.specs.Bound.{Names, no_names, IsSubset, IsClosed, IsBound, is_closed, has_name, has_any_name, has_all}
+use Rattle.ap_pieces.specs.Bound.{Names, no_names, IsSubset, IsClosed, IsBound, is_closed, has_name, has_any_name, has_all}
 use Rattle.ap_bindings.specs.Searches.{number_in, is_marked, IsTable, Grows, also, at_numbers, IsListed, AreRules, has_counted, is_named}
 
 -- ---- tables that grow

@@ -2,5 +2,5 @@ pub mod FirstLemmas
 pub mod TakeLemmas
 mod NameLemmas
 mod BindingLemmas
-mod LooseLemmas
-mod SourceLemmas
+mod UnboundLemmas
+pub mod SourceLemmas

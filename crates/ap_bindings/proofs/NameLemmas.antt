@@ -5,7 +5,7 @@ use Rattle.std.proofs.lemmas.Bool.{false_from_ne_true}
 use Rattle.std.proofs.lemmas.Slice.Eq.{bytes_eq-Decides}
 use Rattle.ap_bindings.specs.declared.names.NameTable.{NameTable}
 use mathlib.Core.Path.{fun_ext}
-use Rattle.ap_bindings.specs.Bound.{Names, IsSubset}
+use Rattle.ap_pieces.specs.Bound.{Names, IsSubset}
 use Rattle.ap_bindings.specs.Searches.{number_in, IsTable, Grows}
 
 pub cond_or : (b x : Bool) → cond b true x ≡ (b || x)

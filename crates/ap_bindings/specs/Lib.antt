@@ -1,4 +1,3 @@
 pub mod Texts
-pub mod Bound
 pub mod Searches
 pub mod Unsafe

@@ -9,10 +9,10 @@ use Rattle.ap_pieces.specs.declared.variables.Occurrence.{Occurrence}
 use Rattle.ap_bindings.specs.declared.names.NameSet.{NameSet}
 use Rattle.ap_bindings.specs.declared.names.NameTable.{NameTable}
 use Rattle.ap_bindings.specs.declared.binding.Bound.{Bound}
-use Rattle.ap_bindings.specs.declared.loose.Scope.{Scope}
+use Rattle.ap_bindings.specs.declared.scope.Scope.{Scope}
 use Rattle.ap_pieces.specs.declared.pieces.Piece.{Piece}
 use Rattle.ap_bindings.specs.declared.search.Failing.{Failing}
-use Rattle.ap_bindings.specs.Bound.{Names, has_any_name, has_all, bound_within, IsLooseOf, AreLooseOf, AreLoose}
+use Rattle.ap_pieces.specs.Bound.{Names, has_any_name, has_all, bound_within, AreUnboundOf, AreUnboundAmong, AreUnbound}
 
 -- ---- sets and numbers of names
 
@@ -90,24 +90,24 @@ abbrev pub first_or : Option (List ℕ) → Option (List ℕ) → Option (List �
 first_or None other = other
 first_or (Some name) other = Some name
 
--- what is taken as bound by a part's condition
-abbrev pub taken_in : Scope → Names
-taken_in scope = bound_in scope.globals.now scope.within.now
+-- what is assumed as bound by a part's condition
+abbrev pub assumed_in : Scope → Names
+assumed_in scope = bound_in scope.globals.now scope.within.now
 
 -- what is bound in a part
-abbrev pub good_in : Scope → Names
-good_in scope = bound_within (names_in scope.globals.now) (marked_in scope.outside.now) (taken_in scope)
+abbrev pub bound_inside : Scope → Names
+bound_inside scope = bound_within (names_in scope.globals.now) (marked_in scope.outside.now) (assumed_in scope)
 
 -- this is the first of the names of a piece's unbound occurrences
-abbrev pub IsFirstLoose : Names → Names → Piece → Option (List ℕ) → Type 0
-IsFirstLoose global outside piece first = (names : List (List ℕ)) × IsLooseOf global outside piece names × (first ≡ first_name names)
+abbrev pub IsFirstUnboundOf : Names → Names → Piece → Option (List ℕ) → Type 0
+IsFirstUnboundOf global outside piece first = (names : List (List ℕ)) × AreUnboundOf global outside piece names × (first ≡ first_name names)
 
 abbrev pub IsFirstAmong : Names → Names → List Piece → Option (List ℕ) → Type 0
-IsFirstAmong global outside pieces first = (names : List (List ℕ)) × AreLooseOf global outside pieces names × (first ≡ first_name names)
+IsFirstAmong global outside pieces first = (names : List (List ℕ)) × AreUnboundAmong global outside pieces names × (first ≡ first_name names)
 
 -- this is the first of the names of the unbound occurrences of a rule or an element
 abbrev pub IsFirstUnbound : List Piece → Option (List ℕ) → Type 0
-IsFirstUnbound pieces first = (names : List (List ℕ)) × AreLoose pieces names × (first ≡ first_name names)
+IsFirstUnbound pieces first = (names : List (List ℕ)) × AreUnbound pieces names × (first ≡ first_name names)
 
 -- ---- the first source with an unbound variable
 

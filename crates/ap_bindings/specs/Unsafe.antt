@@ -1,16 +1,15 @@
--- Rules and elements with an unbound variable, and the first of them in the texts.
-use Rattle.std.specs.Prelude.{ℕ, List, Option}
+-- The first rule or element in the texts with an unbound variable.
+use Rattle.std.specs.Prelude.{ℕ, List, Option, Some, None, All}
 use Rattle.ap_bindings.specs.declared.search.Failing.{Failing}
-use Rattle.ap_bindings.specs.Texts.{Place, IsFirstFailing}
+use Rattle.ap_bindings.specs.Texts.{Place, IsFirst, failing_place}
 use Rattle.ap_pieces.specs.Pieces.{Source}
-use Rattle.ap_bindings.specs.Bound.{IsUnsafe}
+use Rattle.ap_pieces.specs.Bound.{IsAllBound, IsUnsafe, HasUnbound}
 
 abbrev pub source_place : Source → Place
 source_place source = record { file = source.file; at = source.at }
 
-abbrev pub HasUnbound : Source → Type 0
-HasUnbound source = (variable : List ℕ) × IsUnsafe source variable
-
--- none of them has an unbound variable, or this is the first that has, with the first of its unbound variables
+-- all occurrences in all of them are bound, or this is the first with an unbound variable, and the first of those in its text
 abbrev pub IsFirstUnsafe : List Source → Option (Failing (List ℕ)) → Type 0
-IsFirstUnsafe sources first = IsFirstFailing source_place HasUnbound IsUnsafe sources first
+IsFirstUnsafe sources None = All IsAllBound sources
+IsFirstUnsafe sources (Some found) =
+    (source : Source) × IsFirst source_place HasUnbound sources (failing_place found) source × IsUnsafe source found.what

@@ -1,7 +1,7 @@
 // The variables that a conjunction binds: its least set, by rules without negation over numbers for the names.
 ghost use Rattle.std.specs.Prelude.{◌≡◌, ◌&&◌, ◌||◌, ℕ, Bool, List, false, true, length, not, flat_map, All, OnOk, IfOk};
 ghost use Rattle.std.specs.List.{list_all};
-ghost use Rattle.ap_bindings.specs.Bound.{Names, no_names, plain_mentions, IsBound, has_any_name, has_all, has_argument, binds_side, is_closed};
+ghost use Rattle.ap_pieces.specs.Bound.{Names, no_names, plain_mentions, IsBound, has_any_name, has_all, has_argument, binds_side, is_closed};
 ghost use Rattle.definite.specs.Rules.{IsRuleOf};
 ghost use Rattle.ap_pieces.specs.declared.pieces.Mention.{Mention as MentionSpec};
 ghost use Rattle.ap_pieces.specs.declared.pieces.Side.TheVariants as side;

@@ -3,7 +3,7 @@ ghost use Rattle.std.specs.Prelude.{◌≡◌, ◌||◌, ◌++◌, ℕ, List, On
 ghost use Rattle.std.specs.List.{list_any};
 ghost use Rattle.ap_pieces.specs.Pieces.{side_occurrences, mention_occurrences};
 ghost use Rattle.std.specs.Str.{bytes_eq};
-ghost use Rattle.ap_bindings.specs.Bound.{has_name, is_name_of, global_occurrences, globals};
+ghost use Rattle.ap_pieces.specs.Bound.{has_name, is_name_of, global_occurrences, globals};
 ghost use Rattle.ap_bindings.specs.Searches.{names_in};
 
 use crate::names::NameSet;

@@ -3,8 +3,8 @@
 
 mod binding;
 mod globals;
-mod loose;
 mod names;
+mod scope;
 mod search;
 mod sources;
 #[cfg(test)]

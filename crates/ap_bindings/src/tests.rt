@@ -1,8 +1,8 @@
 // Rules whose first unbound variable is known.
 use crate::unsafe_in;
 use ap_syntax::{
-    AggElement, Atom, BodyItem, ChoiceElement, Function, Guard, HeadForm, Literal, Rel, Rule,
-    SumOp, Term, Text,
+    AggElement, Atom, BodyItem, ChoiceElement, Element, Formula, Function, Guard, HeadForm,
+    Literal, Preference, Ranked, Rel, Rule, SumOp, Target, Term, Text,
 };
 use sqlite_items::{Boxed, Items};
 use std::alloc::{AllocError, Global};
@@ -203,6 +203,52 @@ fn first_in_the_texts(rt: HostRuntime) -> Result<(), Fail> {
             assert_eq!(rt; failing.what.as_str(), "Y");
         }
         None => assert!(rt; false),
+    }
+    Ok(())
+}
+
+/// `#preference(p,subset){p(texts) : p(within)}.`
+fn statement(alloc: Global, texts: &[&str], within: &[&str]) -> Result<Preference, AllocError> {
+    let mut ranks = Items::new(alloc);
+    ranks.push(Ranked {
+        weights: Items::new(alloc),
+        target: Target::For(Formula::Atom(atom(alloc, texts)?)),
+    })?;
+    let mut elements = Items::new(alloc);
+    elements.push(Element {
+        at: 22,
+        ranks,
+        given: None,
+        domain: condition(alloc, within)?,
+    })?;
+    Ok(Preference {
+        file: 1,
+        at: 0,
+        name: Text::new(alloc, "p")?,
+        kind: Text::new(alloc, "subset")?,
+        elements,
+    })
+}
+
+/// The first unbound variable of an element, or `safe`.
+#[test]
+fn elements_of_statements(rt: HostRuntime) -> Result<(), Fail> {
+    let alloc = rt.alloc();
+    let table: [(&[&str], &[&str], &str); 3] = [
+        (&["X", "Y"], &["Y", "X"], "safe"),
+        (&["X", "Y"], &["X"], "Y"),
+        (&["_"], &["_"], "_"),
+    ];
+    for (texts, within, expected) in table {
+        let mut statements = Vec::new(alloc);
+        statements.push(statement(alloc, texts, within)?)?;
+        match unsafe_in(alloc, &[], statements.as_slice())? {
+            Some(failing) => {
+                assert_eq!(rt; failing.at, 22);
+                assert_eq!(rt; failing.what.as_str(), expected);
+            }
+            None => assert_eq!(rt; "safe", expected),
+        }
     }
     Ok(())
 }

@@ -1,3 +1,4 @@
 pub mod Variables
 pub mod Placed
 pub mod Pieces
+pub mod Bound

@@ -1,9 +1,10 @@
 -- The tests by numbers decide the conditions, and the searches find the first that fails.
-use Rattle.std.proofs.Common.{◌≡◌, ◌≢◌, ℕ, ◌+◌, ◌⊎◌, inl, inr, ◌↔◌, Bool, true, false, cond, ◌&&◌, ◌||◌, List, [], ◌∷◌, ◌++◌, length, get_or, flat_map, Option, Some, None, refl, sym, ap, ◌∙◌, subst, arith, append_assoc, length-append, Result, Ok, Err, IfOk}
-use Rattle.std.specs.Prelude.{not, ◌==◌, ⊤}
+use Rattle.std.proofs.Common.{◌≡◌, ◌≢◌, ℕ, ◌<◌, ◌≤◌, ◌⊎◌, inl, inr, ◌↔◌, Bool, true, false, cond, ◌&&◌, ◌||◌, List, [], ◌∷◌, ◌++◌, flat_map, fold, Option, Some, None, refl, sym, ap, ◌∙◌, subst, arith, append_assoc, Result, Ok, Err, IfOk}
+use Rattle.std.specs.Prelude.{not, ◌==◌, nat_lt, ⊤}
 use Rattle.std.specs.List.{Contains, Any, list_any}
-use Rattle.std.proofs.lemmas.Bool.{eqb-true, eq-eqb}
-use Rattle.std.proofs.lemmas.List.{get_or_at, append-nil}
+use Rattle.std.proofs.lemmas.Bool.{cases_lt, eqb-true, eq-eqb}
+use Rattle.std.proofs.lemmas.Bool.Decides.{nat_tests}
+use Rattle.std.proofs.lemmas.List.{append-nil}
 use Rattle.std.proofs.lemmas.List.Folds.{Any-from_list_any, list_any_at}
 use Rattle.std.proofs.lemmas.List.Elements.{Contains-append_cases, Contains-append_left, Contains-append_right}
 use Rattle.ap_syntax.specs.declared.rules.Rule.{Rule}
@@ -14,31 +15,29 @@ use Rattle.ap_syntax.specs.declared.terms.Literal.TheVariants.{Pos, Not, Compare
 use Rattle.ap_syntax.specs.declared.rules.ChoiceElement.{ChoiceElement}
 use Rattle.pred_graph.specs.declared.pred.Pred.{Pred}
 use Rattle.ap_pieces.specs.declared.pieces.Piece.{Piece}
-use Rattle.ap_safety.specs.declared.safe.Safe.{Safe}
+use Rattle.pred_graph.specs.Known.{Known, component_in, definite_in, IsSafe}
 use Rattle.ap_bindings.specs.declared.search.Failing.{Failing}
 use Rattle.ap_safety.specs.declared.conditions.RuleFault.{RuleFault}
 use Rattle.ap_safety.specs.declared.conditions.RuleFault.TheVariants.{Aggregate, Recursion}
 use Rattle.ap_pieces.specs.declared.variables.Occurrence.{Occurrence}
 use Rattle.ap_bindings.specs.Texts.{IsFirstFailing, first_failing}
 use Rattle.ap_pieces.specs.Pieces.{rule_pieces, piece_occurrences}
-use Rattle.pred_graph.specs.Predicates.{pred_of, preds_of, positives_of, literal_preds, positive_preds, aggregate_preds, item_preds, item_positives, choice_elements}
+use Rattle.pred_graph.specs.Predicates.{pred_of, preds_of, positives_of, literal_preds, positive_preds, head_preds, aggregate_preds, item_preds, item_positives, choice_elements, Depends, DependsBy, IsMentioned}
 use Rattle.ap_safety.specs.Conditions.{Domain, MeetsHead, MeetsAtom, HasVariable, HasAggregateFault, HasRecursion, IsIndefinite, rule_place, domain_place}
-use Rattle.pred_graph.specs.Tables.{place_in}
-use Rattle.pred_graph.specs.Graphs.{number_of}
-use Rattle.ap_safety.specs.Answers.{definite_in, IsSafe, IsJudged}
-use Rattle.ap_safety.specs.Tests.{is_some_occurrence, has_variable, number_in, rule_number, meets, meets_atom, base_recursion, kind_recursion, has_fault, HasFault, rule_failing, first_rule, is_indefinite, domain_failing, look_at, first_domain}
-use Rattle.pred_graph.proofs.MemberLemmas.{nothing_in, in_flat_map, from_flat_map, any_of, from_any}
+use Rattle.pred_graph.specs.Walks.{Leads}
+use Rattle.pred_graph.specs.Components.{AreMutual}
+use Rattle.ap_safety.specs.Tests.{is_some_occurrence, has_variable, lower, lower_of, lowest, head_component, meets, meets_atom, base_recursion, kind_recursion, has_fault, HasFault, rule_failing, look_at_rule, first_rule, is_indefinite, domain_failing, look_at, first_domain}
+use Rattle.pred_graph.proofs.MemberLemmas.{nothing_in, at_head, head_or_tail, in_tail, in_flat_map, from_flat_map, any_of, from_any}
 use Rattle.ap_bindings.proofs.FirstLemmas.{none_fails, this_fails, this_passes, in_both}
-use Rattle.pred_graph.proofs.EdgeLemmas.{IsAt}
-use Rattle.pred_graph.proofs.DependLemmas.{Numbers, at_in, atom_mentioned, condition_mentioned, meets_number, number_meets}
-use Rattle.ap_safety.proofs.JudgeLemmas.{numbers_of, mutual_numbers}
+use Rattle.pred_graph.proofs.WalkLemmas.{leads_here, leads_more}
+use Rattle.pred_graph.proofs.DependLemmas.{head_mentioned, body_mentioned, atom_mentioned, condition_mentioned}
 
 -- ---- tests of a list
 
 any_found : {X : Type 0} (f : X → Bool) (xs : List X) → list_any f xs ≡ true → (x : X) × Contains xs x × (f x ≡ true)
 any_found f xs h = from_any (λ x. f x ≡ true) xs (Any-from_list_any f xs h)
 
-found_any : {X : Type 0} (f : X → Bool) (xs : List X) (x : X) → Contains xs x → f x ≡ true → list_any f xs ≡ true
+pub found_any : {X : Type 0} (f : X → Bool) (xs : List X) (x : X) → Contains xs x → f x ≡ true → list_any f xs ≡ true
 found_any f xs x h e = list_any_at f xs h.0 x h.1 (subst (λ v. f v ≡ true) (sym h.2) e)
 
 and_both : (a b : Bool) → a && b ≡ true → (a ≡ true) × (b ≡ true)
@@ -117,40 +116,98 @@ variable_iff rule = (
   (λ h. joined_some (rule_pieces rule) ∙ not_empty_some (flat_map piece_occurrences (rule_pieces rule)) h),
 )
 
+-- ---- one step to the lowest component
+
+one_lower : (c found number : ℕ) → lower found number ≡ c → (found ≡ c) ⊎ (number ≡ c)
+one_lower c found number e = grind (arith, nat_tests)
+
+lower_small : (c found number : ℕ) → c ≤ number → (found ≡ 0) ⊎ (c ≤ found) → (lower found number ≡ 0) ⊎ (c ≤ lower found number)
+lower_small c found number here small = grind (arith, nat_tests)
+
+lower_found : (c found number : ℕ) → 0 < c → c ≤ number → found ≡ c → lower found number ≡ c
+lower_found c found number pos here e = grind (arith, nat_tests)
+
+lower_here : (c found number : ℕ) → 0 < c → (found ≡ 0) ⊎ (c ≤ found) → number ≡ c → lower found number ≡ c
+lower_here c found number pos small e = grind (arith, nat_tests)
+
+-- ---- the lowest component
+
+-- a component that is the lowest of all is that of a predicate
+lowest_found : (safe : Known) (c found : ℕ) (preds : List Pred) → fold (lower_of safe) found preds ≡ c → (found ≡ c) ⊎ ((h : Pred) × Contains preds h × (component_in safe h ≡ c))
+lowest_found safe c found [] e = inl e
+lowest_found safe c found (p ∷ preds) e = elim (lowest_found safe c (lower_of safe found p) preds e) [
+  | inl same ↦ elim (one_lower c found (component_in safe p) same) [ inl f ↦ inl f | inr g ↦ inr (p, at_head p preds, g) ]
+  | inr later ↦ inr (later.0, in_tail p preds later.0 later.1, later.2)
+]
+
+-- a component that is at most that of each of the predicates, and that of one of them, is the lowest
+found_lowest : (safe : Known) (c found : ℕ) (preds : List Pred) → 0 < c → (found ≡ 0) ⊎ (c ≤ found) → ((h : Pred) → Contains preds h → c ≤ component_in safe h)
+    → (found ≡ c) ⊎ ((h : Pred) × Contains preds h × (component_in safe h ≡ c)) → fold (lower_of safe) found preds ≡ c
+found_lowest safe c found [] pos small each (inl e) = e
+found_lowest safe c found [] pos small each (inr h) = absurd (nothing_in h.0 h.1)
+found_lowest safe c found (p ∷ preds) pos small each some =
+    let here = each p (at_head p preds) in
+    found_lowest safe c (lower_of safe found p) preds pos (lower_small c found (component_in safe p) here small) (λ h has. each h (in_tail p preds h has)) (elim some [
+      | inl e ↦ inl (lower_found c found (component_in safe p) pos here e)
+      | inr h ↦ elim (head_or_tail p preds h.0 h.1) [
+        | inl same ↦ inl (lower_here c found (component_in safe p) pos small (subst (λ (v : Pred). component_in safe v ≡ c) (sym same) h.2))
+        | inr later ↦ inr (h.0, later, h.2)
+      ]
+    ])
+
 -- ---- conditions of rules
 
-module _ (rules : List Rule) (safe : Safe) (j : IsJudged rules safe) where
-  abbrev Keys : List Pred
-  Keys = safe.table.keys
+module _ (rules : List Rule) (safe : Known) (s : IsSafe rules safe) where
+  depends : (rule : Rule) (h q : Pred) → Contains rules rule → Contains (head_preds rule.head) h → Contains (flat_map item_preds rule.body) q → Depends rules h q
+  depends rule h q at head body = any_of (DependsBy h q) rules rule at (inl (head, body))
 
-  t : Numbers rules (length safe.table.keys) (place_in safe.table.keys)
-  t = numbers_of rules safe.table.keys j.table
+  same_iff : (p q : Pred) → IsMentioned rules p → IsMentioned rules q → (component_in safe p ≡ component_in safe q) ↔ AreMutual rules p q
+  same_iff p q hp hq = s.order.same p q hp hq
 
-  meets_head : (place : ℕ) (rule : Rule) (preds : List Pred) → IsAt rules place rule → ((q : Pred) → Contains preds q → Contains (flat_map item_preds rule.body) q)
-      → (meets safe (rule_number safe place) preds ≡ true) ↔ MeetsHead rules rule preds
-  meets_head place rule preds at inside = (
+  -- no predicate of a body has a higher component than a head
+  at_most : (rule : Rule) (h q : Pred) → Contains rules rule → Contains (head_preds rule.head) h → Contains (flat_map item_preds rule.body) q → component_in safe q ≤ component_in safe h
+  at_most rule h q at head body =
+      let way = leads_more (Depends rules) h q q (depends rule h q at head body) (leads_here (Depends rules) q) in
+      let iff = same_iff h q (head_mentioned rules rule h at head) (body_mentioned rules rule q at body) in
+      elim (cases_lt (component_in safe h) (component_in safe q)) [
+        | inl lt ↦
+            let back : Leads (Depends rules) q h → ⊥ = λ k. let e = iff.1 (way, k) in omega arith in
+            let lower = s.order.lower h q (way, back) in omega arith
+        | inr le ↦ le
+      ]
+
+  meets_head : (rule : Rule) (preds : List Pred) → Contains rules rule → ((q : Pred) → Contains preds q → Contains (flat_map item_preds rule.body) q)
+      → (meets safe (head_component safe rule) preds ≡ true) ↔ MeetsHead rules rule preds
+  meets_head rule preds at inside = (
     (λ e.
-        let r = any_found (λ q. number_in safe q == rule_number safe place) preds e in
-        let same = eqb-true (number_in safe r.0) (rule_number safe place) r.2 in
-        let h = number_meets rules (length safe.table.keys) (place_in safe.table.keys) t (number_of safe.numbers) j.numbers place rule r.0 at (inside r.0 r.1) same in
-        (h.0, r.0, h.1, r.1, h.2)),
+        let r = any_found (λ q. component_in safe q == head_component safe rule) preds e in
+        let same = eqb-true (component_in safe r.0) (head_component safe rule) r.2 in
+        let mentioned = body_mentioned rules rule r.0 at (inside r.0 r.1) in
+        let above = s.order.mentioned r.0 mentioned in
+        elim (lowest_found safe (component_in safe r.0) 0 (head_preds rule.head) (sym same)) [
+          | inl zero ↦ absurd (omega arith)
+          | inr h ↦ (h.0, r.0, h.1, r.1, (same_iff h.0 r.0 (head_mentioned rules rule h.0 at h.1) mentioned).0 h.2)
+        ]),
     (λ m.
-        found_any (λ q. number_in safe q == rule_number safe place) preds m.1 m.3
-        (eq-eqb (number_in safe m.1) (rule_number safe place) (meets_number rules (length safe.table.keys) (place_in safe.table.keys) t (number_of safe.numbers) j.numbers place rule m.0 m.1 at m.2 (inside m.1 m.3) m.4))),
+        let body = inside m.1 m.3 in
+        let mentioned = body_mentioned rules rule m.1 at body in
+        let same = (same_iff m.0 m.1 (head_mentioned rules rule m.0 at m.2) mentioned).1 m.4 in
+        let is = found_lowest safe (component_in safe m.1) 0 (head_preds rule.head) (s.order.mentioned m.1 mentioned) (inl refl) (λ h head. at_most rule h m.1 at head body) (inr (m.0, m.2, same)) in
+        found_any (λ q. component_in safe q == head_component safe rule) preds m.1 m.3 (eq-eqb (component_in safe m.1) (head_component safe rule) (sym is))),
   )
 
   atom_iff : (rule : Rule) (element : ChoiceElement) → Contains rules rule → Contains (choice_elements rule.head) element → (meets_atom safe element ≡ true) ↔ MeetsAtom rules element
   atom_iff rule element h e =
       let p = pred_of element.atom in
-      let hp = t.known p (atom_mentioned rules rule element h e) in
-      let known = λ (q : Pred) (has : Contains (positives_of element.condition) q). t.known q (condition_mentioned rules rule element q h e (positives_in element.condition q has)) in (
+      let hp = atom_mentioned rules rule element h e in
+      let known = λ (q : Pred) (has : Contains (positives_of element.condition) q). condition_mentioned rules rule element q h e (positives_in element.condition q has) in (
         (λ b.
-            let r = any_found (λ q. number_in safe q == number_in safe p) (positives_of element.condition) b in
-            let same = eqb-true (number_in safe r.0) (number_in safe p) r.2 in
-            (r.0, r.1, (mutual_numbers rules safe j p r.0 hp (known r.0 r.1)).0 (sym same))),
+            let r = any_found (λ q. component_in safe q == component_in safe p) (positives_of element.condition) b in
+            let same = eqb-true (component_in safe r.0) (component_in safe p) r.2 in
+            (r.0, r.1, (same_iff p r.0 hp (known r.0 r.1)).0 (sym same))),
         (λ m.
-            found_any (λ q. number_in safe q == number_in safe p) (positives_of element.condition) m.0 m.1
-            (eq-eqb (number_in safe m.0) (number_in safe p) (sym ((mutual_numbers rules safe j p m.0 hp (known m.0 m.1)).1 m.2)))),
+            found_any (λ q. component_in safe q == component_in safe p) (positives_of element.condition) m.0 m.1
+            (eq-eqb (component_in safe m.0) (component_in safe p) (sym ((same_iff p m.0 hp (known m.0 m.1)).1 m.2)))),
       )
 
   atoms_iff : (rule : Rule) → Contains rules rule → (list_any (meets_atom safe) (choice_elements rule.head) ≡ true) ↔ Any (MeetsAtom rules) (choice_elements rule.head)
@@ -159,16 +216,16 @@ module _ (rules : List Rule) (safe : Safe) (j : IsJudged rules safe) where
     (λ m. let r = from_any (MeetsAtom rules) (choice_elements rule.head) m in found_any (meets_atom safe) (choice_elements rule.head) r.0 r.1 ((atom_iff rule r.0 h r.1).1 r.2)),
   )
 
-  aggregate_by : (base : Bool) (place : ℕ) (rule : Rule) → IsAt rules place rule → (base && meets safe (rule_number safe place) (flat_map aggregate_preds rule.body) ≡ true) ↔ HasAggregateFault base rules rule
-  aggregate_by true place rule at = meets_head place rule (flat_map aggregate_preds rule.body) at (aggregate_body rule)
-  aggregate_by false place rule at = ((λ h. let clash : false ≡ true = h in cc), (λ h. absurd h))
+  aggregate_by : (base : Bool) (rule : Rule) → Contains rules rule → (base && meets safe (head_component safe rule) (flat_map aggregate_preds rule.body) ≡ true) ↔ HasAggregateFault base rules rule
+  aggregate_by true rule at = meets_head rule (flat_map aggregate_preds rule.body) at (aggregate_body rule)
+  aggregate_by false rule at = ((λ h. let clash : false ≡ true = h in cc), (λ h. absurd h))
 
-  recursion_by : (base : Bool) (place : ℕ) (rule : Rule) → IsAt rules place rule → (cond base (base_recursion safe place rule) (kind_recursion safe place rule) ≡ true) ↔ HasRecursion base rules rule
-  recursion_by true place rule at =
+  recursion_by : (base : Bool) (rule : Rule) → Contains rules rule → (cond base (base_recursion safe rule) (kind_recursion safe rule) ≡ true) ↔ HasRecursion base rules rule
+  recursion_by true rule at =
       let v = variable_iff rule in
-      let m = meets_head place rule (flat_map item_positives rule.body) at (positive_body rule) in
-      let a = atoms_iff rule (at_in rules place rule at) in
-      let body = meets safe (rule_number safe place) (flat_map item_positives rule.body) in
+      let m = meets_head rule (flat_map item_positives rule.body) at (positive_body rule) in
+      let a = atoms_iff rule at in
+      let body = meets safe (head_component safe rule) (flat_map item_positives rule.body) in
       let atoms = list_any (meets_atom safe) (choice_elements rule.head) in (
         (λ h.
             let parts = and_both (has_variable rule) (body || atoms) h in
@@ -177,11 +234,11 @@ module _ (rules : List Rule) (safe : Safe) (j : IsJudged rules safe) where
             both_and (has_variable rule) (body || atoms) (v.1 h.0)
             (elim (h.1) [ inl b ↦ left_or body atoms (m.1 b) | inr c ↦ right_or body atoms (a.1 c) ])),
       )
-  recursion_by false place rule at = meets_head place rule (flat_map item_preds rule.body) at (λ q h. h)
+  recursion_by false rule at = meets_head rule (flat_map item_preds rule.body) at (λ q h. h)
 
-  fault_iff : (fault : RuleFault) (place : ℕ) (rule : Rule) → IsAt rules place rule → (has_fault fault safe place rule ≡ true) ↔ HasFault fault safe.base rules rule
-  fault_iff Aggregate place rule at = aggregate_by safe.base place rule at
-  fault_iff Recursion place rule at = recursion_by safe.base place rule at
+  fault_iff : (fault : RuleFault) (rule : Rule) → Contains rules rule → (has_fault fault safe rule ≡ true) ↔ HasFault fault safe.base rules rule
+  fault_iff Aggregate rule at = aggregate_by safe.base rule at
+  fault_iff Recursion rule at = recursion_by safe.base rule at
 
   abbrev pub IsFirstRule : RuleFault → List Rule → Option (Failing ⊤) → Type 0
   IsFirstRule fault all found = IsFirstFailing rule_place (HasFault fault safe.base rules) (λ rule told. ⊤) all found
@@ -192,21 +249,16 @@ module _ (rules : List Rule) (safe : Safe) (j : IsJudged rules safe) where
   one_by fault rule false iff =
       this_passes {T = ⊤} rule_place (HasFault fault safe.base rules) (λ rule told. ⊤) rule (λ h. let clash : false ≡ true = iff.1 h in cc)
 
-  first_by : (fault : RuleFault) (before rest : List Rule) (found : Option (Failing ⊤)) → rules ≡ before ++ rest → IsFirstRule fault before found → IsFirstRule fault rules (first_rule fault safe (length before) found rest)
+  first_by : (fault : RuleFault) (before rest : List Rule) (found : Option (Failing ⊤)) → rules ≡ before ++ rest → IsFirstRule fault before found → IsFirstRule fault rules (first_rule fault safe found rest)
   first_by fault before [] found e h = subst (λ all. IsFirstRule fault all found) (sym (append-nil before) ∙ sym e) h
   first_by fault before (rule ∷ rest) found e h =
-      let at : IsAt rules (length before) rule = record {
-        within = let n = ap length e ∙ length-append before (rule ∷ rest) in omega arith;
-        is = subst (λ all. get_or all (length before) rule ≡ rule) (sym e) (get_or_at before rule rest rule (length before) refl);
-      } in
-      let own = one_by fault rule (has_fault fault safe (length before) rule) (fault_iff fault (length before) rule at) in
-      let more = in_both {T = ⊤} rule_place (HasFault fault safe.base rules) (λ rule told. ⊤) before (rule ∷ []) found (rule_failing fault safe (length before) rule) h own in
-      let next = first_failing found (rule_failing fault safe (length before) rule) in
-      let size : length (before ++ rule ∷ []) ≡ length before + 1 = length-append before (rule ∷ []) in
-      subst (λ n. IsFirstRule fault rules (first_rule fault safe n next rest)) size
-      (first_by fault (before ++ rule ∷ []) rest next (e ∙ sym (append_assoc before (rule ∷ []) rest)) more)
+      let at : Contains rules rule = subst (λ all. Contains all rule) (sym e) (Contains-append_right before (rule ∷ rest) rule (at_head rule rest)) in
+      let own = one_by fault rule (has_fault fault safe rule) (fault_iff fault rule at) in
+      let more = in_both {T = ⊤} rule_place (HasFault fault safe.base rules) (λ rule told. ⊤) before (rule ∷ []) found (rule_failing fault safe rule) h own in
+      let next = first_failing found (rule_failing fault safe rule) in
+      first_by fault (before ++ rule ∷ []) rest next (e ∙ sym (append_assoc before (rule ∷ []) rest)) more
 
-  pub first_rule_found : (fault : RuleFault) → IsFirstRule fault rules (first_rule fault safe 0 None rules)
+  pub first_rule_found : (fault : RuleFault) → IsFirstRule fault rules (first_rule fault safe None rules)
   first_rule_found fault = first_by fault [] rules None refl (none_fails {T = ⊤} rule_place (HasFault fault safe.base rules) (λ rule told. ⊤))
 
 -- ---- domains
@@ -219,7 +271,7 @@ false_not : (b : Bool) → (b ≡ true → ⊥) → not b ≡ true
 false_not true h = absurd (h refl)
 false_not false h = refl
 
-module _ (rules : List Rule) (safe : Safe) (s : IsSafe rules safe) where
+module _ (rules : List Rule) (safe : Known) (s : IsSafe rules safe) where
   indefinite_iff : (d : Domain) → (is_indefinite safe d ≡ true) ↔ IsIndefinite rules safe.base d
   indefinite_iff d = (
     (λ h. let r = any_found (λ p. not (definite_in safe p)) (preds_of d.condition) h in (r.0, r.1, λ def. not_false (definite_in safe r.0) r.2 ((s.definite r.0).1 def))),
@@ -248,12 +300,12 @@ module _ (rules : List Rule) (safe : Safe) (s : IsSafe rules safe) where
 
 -- ---- results
 
-pub first_rule_if : {E : Type 0} (rules : List Rule) (safe : Safe) (fault : RuleFault) (result : Result (Option (Failing ⊤)) E) → IsJudged rules safe → IfOk result (λ found. found ≡ first_rule fault safe 0 None rules)
+pub first_rule_if : {E : Type 0} (rules : List Rule) (safe : Known) (fault : RuleFault) (result : Result (Option (Failing ⊤)) E) → IsSafe rules safe → IfOk result (λ found. found ≡ first_rule fault safe None rules)
     → IfOk result (IsFirstFailing rule_place (HasFault fault safe.base rules) (λ rule told. ⊤) rules)
 first_rule_if rules safe fault (Ok found) j e = subst (IsFirstFailing rule_place (HasFault fault safe.base rules) (λ rule told. ⊤) rules) (sym e) (first_rule_found rules safe j fault)
 first_rule_if rules safe fault (Err e) j h = tt
 
-pub first_domain_if : {E : Type 0} (rules : List Rule) (safe : Safe) (all : List Domain) (result : Result (Option (Failing ⊤)) E) → IsSafe rules safe → IfOk result (λ found. found ≡ first_domain safe None all)
+pub first_domain_if : {E : Type 0} (rules : List Rule) (safe : Known) (all : List Domain) (result : Result (Option (Failing ⊤)) E) → IsSafe rules safe → IfOk result (λ found. found ≡ first_domain safe None all)
     → IfOk result (IsFirstFailing domain_place (IsIndefinite rules safe.base) (λ d told. ⊤) all)
 first_domain_if rules safe all (Ok found) s e = subst (IsFirstFailing domain_place (IsIndefinite rules safe.base) (λ d told. ⊤) all) (sym e) (first_domain_found rules safe s all)
 first_domain_if rules safe all (Err e) s h = tt

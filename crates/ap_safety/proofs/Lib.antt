@@ -1,4 +1,1 @@
-pub mod LeadLemmas
-pub mod TellLemmas
-pub mod JudgeLemmas
 pub mod FaultLemmas

@@ -1,44 +1,19 @@
--- What is computed of rules: the table of their predicates, the numbers of the graph's components, and which nodes lead to one
--- that is not decided.
-use Rattle.std.specs.Prelude.{ℕ, Bool, ◌&&◌, ◌==◌, nat_lt, if◌then◌else◌, List, [], ◌∷◌, ◌++◌, map, flat_map, length, Contains, IsTrue, ◌↔◌}
+-- Which recursion is told, and what is known of rules without one.
+use Rattle.std.specs.Prelude.{◌≡◌, Bool, List, Result, Ok, Err, ⊤}
 use Rattle.ap_syntax.specs.declared.rules.Rule.{Rule}
-use Rattle.definite.specs.declared.Rule.{Rule as Derivation}
-use Rattle.definite.specs.Rules.{marked}
-use Rattle.pred_graph.specs.declared.pred.Pred.{Pred}
-use Rattle.pred_graph.specs.declared.graph.Edge.{Edge}
-use Rattle.pred_graph.specs.Walks.{Leads}
-use Rattle.pred_graph.specs.Predicates.{choice_preds}
-use Rattle.pred_graph.specs.Components.{is_open_name}
-use Rattle.pred_graph.specs.Graphs.{HasEdge, number_of}
+use Rattle.pred_graph.specs.Known.{Known, IsSafe}
+use Rattle.ap_safety.specs.declared.fault.SafetyFault.{SafetyFault}
+use Rattle.ap_safety.specs.declared.fault.SafetyFault.TheVariants.{Unsafe, AggregateRecursion, Recursion, Memory}
+use Rattle.ap_bindings.specs.Texts.{IsFirst, NoneFails}
+use Rattle.ap_safety.specs.Conditions.{rule_place, HasAggregateFault, HasRecursion}
 
--- ---- nodes of predicates that are not decided
-
--- the end from which an edge leads, if this is a predicate and the edge stays in its component
-abbrev pub inner_nodes : ℕ → List ℕ → Edge → List ℕ
-inner_nodes preds numbers e = if nat_lt e.from preds && (number_of numbers e.from == number_of numbers e.to) then e.from ∷ [] else []
-
-abbrev pub choice_nodes : (Pred → ℕ) → Rule → List ℕ
-choice_nodes number rule = map number (choice_preds rule.head)
-
-abbrev pub open_nodes : (Pred → ℕ) → Pred → List ℕ
-open_nodes number p = if is_open_name p.name then number p ∷ [] else []
-
-abbrev pub open_nodes_of : Bool → (Pred → ℕ) → List Pred → List ℕ
-open_nodes_of base number keys = if base then [] else flat_map (open_nodes number) keys
-
-abbrev pub undecided_nodes : Bool → (Pred → ℕ) → List Pred → List ℕ → List Edge → List Rule → List ℕ
-undecided_nodes base number keys numbers edges rules =
-    flat_map (inner_nodes (length keys) numbers) edges ++ flat_map (choice_nodes number) rules ++ open_nodes_of base number keys
-
--- ---- nodes that lead to one of these
-
--- the rules by which a mark goes against the edges
-abbrev pub edge_rule : Edge → Derivation
-edge_rule e = record { body = e.to ∷ []; heads = e.from ∷ [] }
-
-abbrev pub fact_rule : ℕ → Derivation
-fact_rule node = record { body = []; heads = node ∷ [] }
-
--- the marks are those of the nodes that lead to one of these
-abbrev pub AreLeading : List Edge → List ℕ → List Bool → Type 0
-AreLeading edges nodes marks = (a : ℕ) → IsTrue (marked marks a) ↔ ((f : ℕ) × Contains nodes f × Leads (HasEdge edges) a f)
+-- an aggregate's recursion comes before any other
+abbrev pub IsRecursionAnswer : List Rule → Bool → Result Known SafetyFault → Type 0
+IsRecursionAnswer rules base (Ok safe) = NoneFails (HasAggregateFault base rules) rules × NoneFails (HasRecursion base rules) rules
+    × IsSafe rules safe × (safe.base ≡ base)
+IsRecursionAnswer rules base (Err (Unsafe file at variable)) = ⊥
+IsRecursionAnswer rules base (Err (AggregateRecursion file at)) =
+    (rule : Rule) × IsFirst rule_place (HasAggregateFault base rules) rules (record { file = file; at = at }) rule
+IsRecursionAnswer rules base (Err (Recursion file at)) = NoneFails (HasAggregateFault base rules) rules
+    × ((rule : Rule) × IsFirst rule_place (HasRecursion base rules) rules (record { file = file; at = at }) rule)
+IsRecursionAnswer rules base (Err Memory) = ⊤

@@ -1,4 +1,4 @@
-pub mod Judged
 pub mod Conditions
 pub mod Answers
+pub mod Judged
 pub mod Tests

@@ -1,21 +1,22 @@
 // The static conditions.
 ghost use Rattle.ap_bindings.specs.Texts.{NoneFails};
 ghost use Rattle.ap_safety.specs.Conditions.{HasAggregateFault};
-ghost use Rattle.ap_safety.specs.Answers.{IsCheckAnswer, IsRecursionAnswer, IsDomainAnswer, IsSafe, IsJudged};
+ghost use Rattle.ap_safety.specs.Judged.{IsRecursionAnswer};
+ghost use Rattle.ap_safety.specs.Answers.{IsCheckAnswer, IsDomainAnswer};
+ghost use Rattle.pred_graph.specs.Known.{IsSafe};
 
 use crate::conditions::RuleFault;
 use crate::domains::first_indefinite;
 use crate::fault::{DomainFault, SafetyFault};
 use crate::faults::first_fault;
-use crate::judging::judge;
-use crate::safe::Safe;
 use ap_bindings::unsafe_in;
 use ap_syntax::{Preference, Rule};
+use pred_graph::{Safe, judge};
 use std::alloc::Global;
 
 /// Checks that no rule goes through its own head, where no aggregate does.
 fn check_heads(alloc: Global, rules: &[Rule], safe: Safe) -> Result<Safe, SafetyFault>
-    requires judged { IsJudged rules.now safe }
+    requires known { IsSafe rules.now safe }
     requires aggregates { NoneFails (HasAggregateFault safe.base rules.now) rules.now }
     ensures { IsRecursionAnswer rules.now safe.base result }
 {

@@ -3,14 +3,13 @@ ghost use Rattle.std.specs.Prelude.{◌≡◌, flat_map, IfOk};
 ghost use Rattle.std.specs.List.{list_any};
 ghost use Rattle.ap_pieces.specs.Pieces.{piece_occurrences, mention_occurrences, side_occurrences};
 ghost use Rattle.pred_graph.specs.Predicates.{item_positives};
-ghost use Rattle.ap_safety.specs.Tests.{is_some_occurrence, has_variable as is_with_variable, number_in as number_of_pred, rule_number as number_of_rule, meets as meets_number, meets_atom as meets_atom_of, has_aggregate_fault as is_aggregate_fault, base_recursion as is_base_recursion, kind_recursion as is_kind_recursion, has_recursion as is_recursion, has_fault as is_fault};
+ghost use Rattle.ap_safety.specs.Tests.{is_some_occurrence, has_variable as is_with_variable, lower_of as lower_in, lowest as lowest_in, head_component as component_of_heads, meets as meets_number, meets_atom as meets_atom_of, has_aggregate_fault as is_aggregate_fault, base_recursion as is_base_recursion, kind_recursion as is_kind_recursion, has_recursion as is_recursion, has_fault as is_fault};
 
-use crate::safe::Safe;
 use ap_pieces::{Mention, Occurrence, Piece, Side, pieces_of};
 use ap_syntax::{ChoiceElement, Rule};
 use pred_graph::{
-    Pred, body_aggregates, body_positives, body_preds, choice_elements, condition_positives_of,
-    number_at, place_of, pred_of,
+    Pred, Safe, body_aggregates, body_positives, body_preds, choice_elements,
+    condition_positives_of, head_preds, pred_of,
 };
 use std::alloc::{AllocError, Global};
 
@@ -89,23 +88,39 @@ fn has_variable(alloc: Global, rule: &Rule) -> Result<bool, AllocError>
 
 // ---- components
 
-fn number_in(safe: &Safe, pred: &Pred) -> u64
-    ensures { result ≡ number_of_pred safe.now pred.now }
+fn lower(safe: &Safe, found: u64, pred: &Pred) -> u64
+    ensures { result ≡ lower_in safe.now found pred.now }
 {
-    number_at(safe.numbers.as_slice(), place_of(&safe.table, pred))
+    let component = safe.component(pred);
+    if found == 0 || component < found {
+        component
+    } else {
+        found
+    }
 }
 
-fn rule_number(safe: &Safe, place: usize) -> Result<u64, AllocError>
-    ensures { IfOk result (λ number. number ≡ number_of_rule safe.now place) }
+fn lowest(safe: &Safe, preds: &[Pred]) -> u64
+    ensures { result ≡ lowest_in safe.now preds.now }
 {
-    let node = safe.table.len().checked_add(place).ok_or(AllocError)?;
-    Ok(number_at(safe.numbers.as_slice(), node))
+    let mut found = 0;
+    for pred in preds {
+        found = lower(safe, found, pred);
+    }
+    found
+}
+
+/// The lowest component of the heads: a predicate of the body is in the component of a head exactly if it is in this one.
+fn head_component(alloc: Global, safe: &Safe, rule: &Rule) -> Result<u64, AllocError>
+    ensures { IfOk result (λ number. number ≡ component_of_heads safe.now rule.now) }
+{
+    let heads = head_preds(alloc, &rule.head)?;
+    Ok(lowest(safe, heads.as_slice()))
 }
 
 fn meets(safe: &Safe, number: u64, preds: &[Pred]) -> bool
     ensures { result ≡ meets_number safe.now number preds.now }
 {
-    preds.iter().any(|pred| number_in(safe, pred) == number)
+    preds.iter().any(|pred| safe.component(pred) == number)
 }
 
 fn meets_atom(alloc: Global, safe: &Safe, element: &ChoiceElement) -> Result<bool, AllocError>
@@ -113,7 +128,7 @@ fn meets_atom(alloc: Global, safe: &Safe, element: &ChoiceElement) -> Result<boo
 {
     let atom = pred_of(alloc, &element.atom)?;
     let positives = condition_positives_of(alloc, element.condition.as_slice())?;
-    Ok(meets(safe, number_in(safe, &atom), positives.as_slice()))
+    Ok(meets(safe, safe.component(&atom), positives.as_slice()))
 }
 
 fn any_meets_atom(
@@ -133,69 +148,67 @@ fn any_meets_atom(
 
 // ---- rules
 
-fn has_aggregate_fault(
-    alloc: Global,
-    safe: &Safe,
-    place: usize,
-    rule: &Rule,
-) -> Result<bool, AllocError>
-    ensures { IfOk result (λ b. b ≡ is_aggregate_fault safe.now place rule.now) }
+fn has_aggregate_fault(alloc: Global, safe: &Safe, rule: &Rule) -> Result<bool, AllocError>
+    ensures { IfOk result (λ b. b ≡ is_aggregate_fault safe.now rule.now) }
 {
-    if !safe.base {
+    if !safe.is_base() {
         return Ok(false);
     }
     let preds = body_aggregates(alloc, rule.body.as_slice())?;
-    Ok(meets(safe, rule_number(safe, place)?, preds.as_slice()))
+    Ok(meets(safe, head_component(alloc, safe, rule)?, preds.as_slice()))
 }
 
-fn body_meets(alloc: Global, safe: &Safe, place: usize, rule: &Rule) -> Result<bool, AllocError>
-    ensures { IfOk result (λ b. b ≡ meets_number safe.now (number_of_rule safe.now place) (flat_map item_positives rule.now.body)) }
+fn body_meets(alloc: Global, safe: &Safe, rule: &Rule) -> Result<bool, AllocError>
+    ensures { IfOk result (λ b. b ≡ meets_number safe.now (component_of_heads safe.now rule.now) (flat_map item_positives rule.now.body)) }
 {
     let positives = body_positives(alloc, rule.body.as_slice())?;
-    Ok(meets(safe, rule_number(safe, place)?, positives.as_slice()))
+    Ok(meets(
+        safe,
+        head_component(alloc, safe, rule)?,
+        positives.as_slice(),
+    ))
 }
 
-fn base_recursion(alloc: Global, safe: &Safe, place: usize, rule: &Rule) -> Result<bool, AllocError>
-    ensures { IfOk result (λ b. b ≡ is_base_recursion safe.now place rule.now) }
+fn base_recursion(alloc: Global, safe: &Safe, rule: &Rule) -> Result<bool, AllocError>
+    ensures { IfOk result (λ b. b ≡ is_base_recursion safe.now rule.now) }
 {
     if !has_variable(alloc, rule)? {
         return Ok(false);
     }
-    if body_meets(alloc, safe, place, rule)? {
+    if body_meets(alloc, safe, rule)? {
         return Ok(true);
     }
     any_meets_atom(alloc, safe, choice_elements(&rule.head))
 }
 
-fn kind_recursion(alloc: Global, safe: &Safe, place: usize, rule: &Rule) -> Result<bool, AllocError>
-    ensures { IfOk result (λ b. b ≡ is_kind_recursion safe.now place rule.now) }
+fn kind_recursion(alloc: Global, safe: &Safe, rule: &Rule) -> Result<bool, AllocError>
+    ensures { IfOk result (λ b. b ≡ is_kind_recursion safe.now rule.now) }
 {
     let preds = body_preds(alloc, rule.body.as_slice())?;
-    Ok(meets(safe, rule_number(safe, place)?, preds.as_slice()))
+    Ok(meets(safe, head_component(alloc, safe, rule)?, preds.as_slice()))
 }
 
-fn has_recursion(alloc: Global, safe: &Safe, place: usize, rule: &Rule) -> Result<bool, AllocError>
-    ensures { IfOk result (λ b. b ≡ is_recursion safe.now place rule.now) }
+fn has_recursion(alloc: Global, safe: &Safe, rule: &Rule) -> Result<bool, AllocError>
+    ensures { IfOk result (λ b. b ≡ is_recursion safe.now rule.now) }
 {
-    if safe.base {
-        base_recursion(alloc, safe, place, rule)
+    if safe.is_base() {
+        base_recursion(alloc, safe, rule)
     } else {
-        kind_recursion(alloc, safe, place, rule)
+        kind_recursion(alloc, safe, rule)
     }
 }
 
-/// Whether the rule at this place fails the condition.
+/// Whether the rule fails the condition.
 pub(crate) fn has_fault(
     alloc: Global,
     fault: RuleFault,
     safe: &Safe,
-    place: usize,
     rule: &Rule,
 ) -> Result<bool, AllocError>
-    ensures { IfOk result (λ b. b ≡ is_fault fault safe.now place rule.now) }
+    ensures { IfOk result (λ b. b ≡ is_fault fault safe.now rule.now) }
 {
     match fault {
-        RuleFault::Aggregate => has_aggregate_fault(alloc, safe, place, rule),
-        RuleFault::Recursion => has_recursion(alloc, safe, place, rule),
+        RuleFault::Aggregate => has_aggregate_fault(alloc, safe, rule),
+        RuleFault::Recursion => has_recursion(alloc, safe, rule),
     }
 }

@@ -3,14 +3,13 @@ ghost use Rattle.std.specs.Prelude.{◌≡◌, None, flat_map, map, not, IfOk, �
 ghost use Rattle.std.specs.List.{list_any};
 ghost use Rattle.ap_bindings.specs.Texts.{IsFirstFailing};
 ghost use Rattle.pred_graph.specs.Predicates.{preds_of};
-ghost use Rattle.ap_safety.specs.Answers.{definite_in, IsSafe};
+ghost use Rattle.pred_graph.specs.Known.{definite_in, IsSafe};
 ghost use Rattle.ap_safety.specs.Conditions.{domain_place, IsIndefinite, item_domains, rule_domains, element_domain, statement_domains, domains};
 ghost use Rattle.ap_safety.specs.Tests.{look_at as looked_at, first_domain as first_among};
 
-use crate::safe::Safe;
 use ap_bindings::{Failing, earlier};
 use ap_syntax::{BodyItem, Element, Literal, Preference, Rule};
-use pred_graph::{Pred, condition_preds_of};
+use pred_graph::{Pred, Safe, condition_preds_of};
 use std::alloc::{AllocError, Global};
 
 fn any_indefinite(safe: &Safe, preds: &[Pred]) -> bool

@@ -6,8 +6,8 @@ use thiserror::Error;
 /// Why rules are refused.
 #[derive(Debug, Drop, Error)]
 pub enum SafetyFault {
-    /// A variable of a rule or of an element of a preference statement is not bound, as in Gebser, Kaminski, Kaufmann and Schaub
-    /// 2012.
+    /// A variable of a rule or of an element of a preference statement is not bound: neither an argument of a positive literal of
+    /// the body, nor one side of `=` whose other side has bound variables alone.
     #[error("a variable is not bound")]
     Unsafe {
         /// The number of its file, from 1. 0 where the text is of no file.

@@ -1,8 +1,8 @@
 // Programs whose answer is known.
 use crate::{DomainFault, Pred, Safe, SafetyFault, check, domain};
 use ap_syntax::{
-    AggElement, Atom, BodyItem, ChoiceElement, Function, Guard, HeadForm, Literal, Rel, Rule,
-    SumOp, Term, Text,
+    AggElement, Atom, BodyItem, ChoiceElement, Element, Formula, Function, Guard, HeadForm,
+    Literal, Preference, Ranked, Rel, Rule, SumOp, Target, Term, Text,
 };
 use sqlite_items::{Boxed, Items};
 use std::alloc::{AllocError, Global};
@@ -202,8 +202,13 @@ fn rules(alloc: Global, lines: &[Line]) -> Result<Vec<Rule>, AllocError> {
     Ok(rules)
 }
 
-fn answer(alloc: Global, rules: &[Rule], base: bool) -> Result<Want, AllocError> {
-    match check(alloc, rules, &[], base) {
+fn answer(
+    alloc: Global,
+    rules: &[Rule],
+    statements: &[Preference],
+    base: bool,
+) -> Result<Want, AllocError> {
+    match check(alloc, rules, statements, base) {
         Ok(_) => Ok(Want::Accepted),
         Err(SafetyFault::Unsafe { at, .. }) => Ok(Want::Unsafe(at)),
         Err(SafetyFault::AggregateRecursion { at, .. }) => Ok(Want::AggregateRecursion(at)),
@@ -214,7 +219,7 @@ fn answer(alloc: Global, rules: &[Rule], base: bool) -> Result<Want, AllocError>
 
 fn outcome(alloc: Global, lines: &[Line], base: bool) -> Result<Want, AllocError> {
     let rules = rules(alloc, lines)?;
-    answer(alloc, rules.as_slice(), base)
+    answer(alloc, rules.as_slice(), &[], base)
 }
 
 #[test]
@@ -284,7 +289,7 @@ fn better(alloc: Global) -> Result<Vec<Rule>, AllocError> {
 fn a_type_through_its_own_negation(rt: HostRuntime) -> Result<(), Fail> {
     let alloc = rt.alloc();
     let rules = better(alloc)?;
-    assert_eq!(rt; answer(alloc, rules.as_slice(), false)?, Want::Recursion(0));
+    assert_eq!(rt; answer(alloc, rules.as_slice(), &[], false)?, Want::Recursion(0));
     Ok(())
 }
 
@@ -366,7 +371,7 @@ fn an_aggregate_through_its_head(rt: HostRuntime) -> Result<(), Fail> {
         (true, Want::AggregateRecursion(0)),
         (false, Want::Recursion(0)),
     ] {
-        assert_eq!(rt; answer(alloc, rules.as_slice(), base)?, want);
+        assert_eq!(rt; answer(alloc, rules.as_slice(), &[], base)?, want);
     }
     Ok(())
 }
@@ -394,7 +399,7 @@ fn a_variable_in_a_long_chain(rt: HostRuntime) -> Result<(), Fail> {
         let head = with_argument(alloc, "p", long_sum(alloc)?)?;
         let rule = plain(alloc, 0, head, positive(alloc, "q", of_x)?)?;
         let rules = Vec::from_array(alloc, [rule])?;
-        assert_eq!(rt; answer(alloc, rules.as_slice(), true)?, want);
+        assert_eq!(rt; answer(alloc, rules.as_slice(), &[], true)?, want);
     }
     Ok(())
 }
@@ -427,7 +432,7 @@ fn successors(rt: HostRuntime) -> Result<(), Fail> {
     let alloc = rt.alloc();
     for (source, want) in [("p", Want::Recursion(6)), ("d", Want::Accepted)] {
         let rules = successors_of(alloc, source)?;
-        assert_eq!(rt; answer(alloc, rules.as_slice(), true)?, want);
+        assert_eq!(rt; answer(alloc, rules.as_slice(), &[], true)?, want);
     }
     Ok(())
 }
@@ -471,10 +476,14 @@ fn chosen(alloc: Global, name: &str) -> Result<Vec<Rule>, AllocError> {
     pair(alloc, choice, conditional(alloc)?)
 }
 
-/// What `domain` answers of safe rules.
-fn domain_of(alloc: Global, rules: &[Rule]) -> Result<Result<(), DomainFault>, AllocError> {
-    match check(alloc, rules, &[], true) {
-        Ok(safe) => Ok(domain(alloc, rules, &[], &safe)),
+/// What `domain` answers of safe rules and statements.
+fn domain_of(
+    alloc: Global,
+    rules: &[Rule],
+    statements: &[Preference],
+) -> Result<Result<(), DomainFault>, AllocError> {
+    match check(alloc, rules, statements, true) {
+        Ok(safe) => Ok(domain(alloc, rules, statements, &safe)),
         Err(_) => Err(AllocError),
     }
 }
@@ -486,8 +495,50 @@ fn conditions_over_choices(rt: HostRuntime) -> Result<(), Fail> {
     let not_domain = DomainFault::NotDomain { file: 1, at: 10 };
     for (name, want) in [("d", Ok(())), ("c", Err(not_domain))] {
         let rules = chosen(alloc, name)?;
-        assert_eq!(rt; domain_of(alloc, rules.as_slice())?, want);
+        assert_eq!(rt; domain_of(alloc, rules.as_slice(), &[])?, want);
     }
+    Ok(())
+}
+
+/// `#preference(p,subset){atom : domain}.`, behind a text of five bytes.
+fn preference(
+    alloc: Global,
+    atom: Atom,
+    domain: Items<Literal>,
+) -> Result<Vec<Preference>, AllocError> {
+    let ranked = Ranked {
+        weights: Items::new(alloc),
+        target: Target::For(Formula::Atom(atom)),
+    };
+    let element = Element {
+        at: 27,
+        ranks: only(alloc, ranked)?,
+        given: None,
+        domain,
+    };
+    let statement = Preference {
+        file: 1,
+        at: 5,
+        name: Text::new(alloc, "p")?,
+        kind: Text::new(alloc, "subset")?,
+        elements: only(alloc, element)?,
+    };
+    Ok(vec![in alloc; statement]?)
+}
+
+/// `{b}. #preference(p,subset){a : b}.` has a condition that is not definite, and `{b}. #preference(p,subset){a(X)}.` an unbound
+/// variable.
+#[test]
+fn elements_of_a_statement(rt: HostRuntime) -> Result<(), Fail> {
+    let alloc = rt.alloc();
+    let rules = only(alloc, choice(alloc, "b")?)?;
+    let over_b = only(alloc, positive(alloc, "b", false)?)?;
+    let statements = preference(alloc, atom(alloc, "a", false)?, over_b)?;
+    let not_domain = DomainFault::NotDomain { file: 1, at: 27 };
+    assert_eq!(rt; domain_of(alloc, rules.as_slice(), statements.as_slice())?, Err(not_domain));
+    let unbound = preference(alloc, atom(alloc, "a", true)?, Items::new(alloc))?;
+    let found = answer(alloc, rules.as_slice(), unbound.as_slice(), true)?;
+    assert_eq!(rt; found, Want::Unsafe(27));
     Ok(())
 }
 

@@ -7,12 +7,10 @@ use Rattle.ap_syntax.specs.declared.rules.ChoiceElement.{ChoiceElement}
 use Rattle.ap_syntax.specs.declared.rules.HeadForm.{HeadForm}
 use Rattle.ap_syntax.specs.declared.rules.HeadForm.TheVariants.{One, Choice, Nothing}
 use Rattle.pred_graph.specs.declared.pred.Pred.{Pred}
-use Rattle.pred_graph.specs.Walks.{Leads}
 use Rattle.pred_graph.specs.Predicates.{pred_of, preds_of, head_preds, item_preds, choice_elements, element_pred, Depends, DependsBy, IsMentioned, IsMentionedBy}
-use Rattle.pred_graph.specs.Components.{AreMutual}
-use Rattle.pred_graph.specs.Graphs.{HasEdge, edges_from, Orders}
+use Rattle.pred_graph.specs.Graphs.{HasEdge, edges_from}
 use Rattle.pred_graph.proofs.MemberLemmas.{nothing_in, any_of, from_any, in_map}
-use Rattle.pred_graph.proofs.WalkLemmas.{Models, leads_here, leads_more, leads_on, walk_into, walk_out, last_step}
+use Rattle.pred_graph.proofs.WalkLemmas.{Models}
 use Rattle.pred_graph.proofs.EdgeLemmas.{IsAt, Kind, kind_of, head_there, body_there, condition_there}
 use Rattle.pred_graph.proofs.EdgeLemmas.Kind.{by_head, by_body, by_condition}
 
@@ -134,38 +132,3 @@ module _ (rules : List Rule) (n : ℕ) (number : Pred → ℕ) (t : Numbers rule
     through = λ p r c hp e le f. through_kinds p r c hp le (kind_of number rules n (number p) r e) (kind_of number rules n r c f);
     back = λ p x d. let s = from_any (DependsBy p x) rules d in back_edges p x s.0 s.1 s.2;
   }
-
-  -- ---- the component of a head
-
-  module _ (numbers : ℕ → ℕ) (o : Orders (n + length rules) Next numbers) where
-    -- one of the predicates that the body mentions has the number of the rule
-    pub meets_number : (i : ℕ) (rule : Rule) (h q : Pred) → IsAt rules i rule → Contains (head_preds rule.head) h → Contains (flat_map item_preds rule.body) q → AreMutual rules h q → numbers (number q) ≡ numbers (n + i)
-    meets_number i rule h q at head body m =
-        let into = head_there number rules n i rule h at head in
-        let out = body_there number rules n i rule q at body in
-        let back = walk_into n number Next (Depends rules) models q h m.1 in
-        let bounds = ends (n + i) (number q) out in
-        (o.same (number q) (n + i) bounds.1 bounds.0).1 (
-          leads_on Next (number q) (number h) (n + i) back (leads_more Next (number h) (n + i) (n + i) into (leads_here Next (n + i))),
-          leads_more Next (n + i) (number q) (number q) out (leads_here Next (number q)),
-        )
-
-    pub number_meets : (i : ℕ) (rule : Rule) (q : Pred) → IsAt rules i rule → Contains (flat_map item_preds rule.body) q → numbers (number q) ≡ numbers (n + i) → (h : Pred) × Contains (head_preds rule.head) h × AreMutual rules h q
-    number_meets i rule q at body e =
-        let out = body_there number rules n i rule q at body in
-        let bounds = ends (n + i) (number q) out in
-        let hq = t.known q (body_mentioned rules rule q (at_in rules i rule at) body) in
-        let way = ((o.same (number q) (n + i) bounds.1 bounds.0).0 e).0 in
-        elim (last_step Next (number q) (n + i) way) [
-          | inl same ↦ absurd (omega arith)
-          | inr s ↦
-              let f = into_rule s.0 (n + i) (omega arith) (kind_of number rules n s.0 (n + i) s.2) in
-              let place : f.0 ≡ i = let d = f.6 in omega arith in
-              let same = same_rule rules f.0 i f.1 rule place f.3 at in
-              let head : Contains (head_preds rule.head) f.2 = subst (λ (v : Rule). Contains (head_preds v.head) f.2) same f.4 in
-              let hh = t.known f.2 (head_mentioned rules rule f.2 (at_in rules i rule at) head) in
-              let into = head_there number rules n i rule f.2 at head in
-              let to_head : Leads Next (number q) (number f.2) = subst (λ v. Leads Next (number q) v) (sym f.5) s.1 in
-              let from_head : Leads Next (number f.2) (number q) = leads_more Next (number f.2) (n + i) (number q) into (leads_more Next (n + i) (number q) (number q) out (leads_here Next (number q))) in
-              (f.2, head, (walk_out n number Next (Depends rules) models f.2 q hh hq from_head, walk_out n number Next (Depends rules) models q f.2 hq hh to_head))
-        ]

@@ -5,3 +5,6 @@ pub mod GraphLemmas
 pub mod PlaceLemmas
 pub mod RowLemmas
 pub mod DependLemmas
+pub mod LeadLemmas
+pub mod TellLemmas
+pub mod JudgeLemmas

@@ -16,17 +16,6 @@ walk_on Next x y z (n ∷ w) e l = leads_more Next x n z e.0 (walk_on Next n y z
 pub leads_on : {X : Type 0} (Next : X → X → Type 0) (x y z : X) → Leads Next x y → Leads Next y z → Leads Next x z
 leads_on Next x y z k l = walk_on Next x y z k.0 k.1 l
 
-last_of : {X : Type 0} (Next : X → X → Type 0) (x y : X) (w : List X) → IsWalk Next x w y → (x ≡ y) ⊎ ((z : X) × Leads Next x z × Next z y)
-last_of Next x y [] e = inl e
-last_of Next x y (n ∷ w) e = elim (last_of Next n y w e.1) [
-  | inl is ↦ inr (x, leads_here Next x, subst (λ v. Next x v) is e.0)
-  | inr s ↦ inr (s.0, leads_more Next x n s.0 e.0 s.1, s.2)
-]
-
--- a walk has no step, or a last one
-pub last_step : {X : Type 0} (Next : X → X → Type 0) (x y : X) → Leads Next x y → (x ≡ y) ⊎ ((z : X) × Leads Next x z × Next z y)
-last_step Next x y l = last_of Next x y l.0 l.1
-
 -- where each step leads from image to image, so does each walk
 walk_over : {X Y : Type 0} (Next : X → X → Type 0) (Other : Y → Y → Type 0) (f : X → Y) → ((a b : X) → Next a b → Leads Other (f a) (f b)) → (x y : X) (w : List X) → IsWalk Next x w y → Leads Other (f x) (f y)
 walk_over Next Other f each x y [] e = subst (λ v. Leads Other (f x) (f v)) e (leads_here Other (f x))

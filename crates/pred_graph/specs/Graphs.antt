@@ -1,7 +1,8 @@
 -- The graph of the predicates. Its nodes are numbers: the places of the predicates, and behind them one node for each rule. An
 -- edge leads from each head of a rule to the rule's node, from there to each predicate of the body, and from the atom of a
 -- choice to each predicate of its own condition.
-use Rattle.std.specs.Prelude.{◌≡◌, ◌≢◌, ℕ, ◌+◌, ◌<◌, ◌↔◌, List, [], ◌∷◌, ◌++◌, map, flat_map, length, slice_index_or, Contains}
+use Rattle.std.specs.Prelude.{◌≡◌, ◌≢◌, ℕ, ◌+◌, ◌<◌, ◌↔◌, List, [], ◌∷◌, ◌++◌, map, flat_map, length, Contains}
+pub use Rattle.components.specs.Graphs.{successors_of, number_of}
 use Rattle.pred_graph.specs.Walks.{Leads}
 use Rattle.ap_syntax.specs.declared.rules.Rule.{Rule}
 use Rattle.ap_syntax.specs.declared.rules.ChoiceElement.{ChoiceElement}
@@ -46,9 +47,6 @@ module _ (number : Pred → ℕ) where
 
 -- ---- the same graph by the successors of each node
 
-abbrev pub successors_of : List (List ℕ) → ℕ → List ℕ
-successors_of rows a = slice_index_or rows a []
-
 -- there is a list of successors for each node, and they are those of the edges
 pub record AreRows (nodes : ℕ) (edges : List Edge) (rows : List (List ℕ)) : Type 0 where
   pub size : length rows ≡ nodes
@@ -62,9 +60,6 @@ pub record IsSuccessorAdded (before after : List (List ℕ)) (e : Edge) : Type 0
   pub size : length after ≡ length before
 
 -- ---- numbers of components
-
-abbrev pub number_of : List ℕ → ℕ → ℕ
-number_of numbers a = slice_index_or numbers a 0
 
 -- nodes have one number where each leads to the other, and a node that is led to without a way back has a lower one
 pub record Orders (nodes : ℕ) (Next : ℕ → ℕ → Type 0) (number : ℕ → ℕ) : Type 0 where

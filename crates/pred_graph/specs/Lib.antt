@@ -3,3 +3,5 @@ pub mod Predicates
 pub mod Graphs
 pub mod Tables
 pub mod Components
+pub mod Known
+pub mod Judged

@@ -224,7 +224,7 @@ fn push_heads(alloc: Global, preds: &mut Items<Pred>, head: &HeadForm) -> Result
 }
 
 /// The predicates of the atoms of a head. It fails where `pred_of` fails for one of the atoms, or for want of memory.
-pub(crate) fn head_preds(alloc: Global, head: &HeadForm) -> Result<Items<Pred>, AllocError>
+pub fn head_preds(alloc: Global, head: &HeadForm) -> Result<Items<Pred>, AllocError>
     ensures { IfOk result (λ preds. preds ≡ heads_of head.now) }
 {
     let mut preds = Items::new(alloc);

@@ -1,5 +1,5 @@
 // The table of the predicates that rules mention: the number of a predicate is its place.
-ghost use Rattle.std.specs.Prelude.{◌≡◌, [], flat_map, map, OnOk, IfOk};
+ghost use Rattle.std.specs.Prelude.{◌≡◌, [], flat_map, OnOk, IfOk};
 ghost use Rattle.indexmap.specs.IndexSet.{insert_key, insert_all};
 ghost use Rattle.pred_graph.specs.Predicates.{rule_preds};
 ghost use Rattle.pred_graph.specs.Tables.{is_pred, place_in};
@@ -8,7 +8,6 @@ use crate::pred::Pred;
 use crate::predicates::mentioned;
 use ap_syntax::Rule;
 use indexmap::IndexSet;
-use sqlite_items::Items;
 use std::alloc::{AllocError, Global};
 
 /// Puts a predicate into the table, if it is not there.
@@ -54,19 +53,4 @@ pub fn place_of(table: &IndexSet<Pred>, pred: &Pred) -> usize
         Some(place) => place,
         None => table.len(),
     }
-}
-
-/// The numbers of these predicates. It fails for want of memory alone.
-pub(crate) fn places_of(
-    alloc: Global,
-    table: &IndexSet<Pred>,
-    preds: &[Pred],
-) -> Result<Items<usize>, AllocError>
-    ensures { IfOk result (λ places. places ≡ map (place_in table.now.keys) preds.now) }
-{
-    let mut places = Items::new(alloc);
-    for pred in preds {
-        places.push(place_of(table, pred))?;
-    }
-    Ok(places)
 }

@@ -2,7 +2,7 @@ use Rattle.std.proofs.Common.{sym, subst, List}
 use Rattle.std.specs.List.{list_all}
 use Rattle.definite.specs.declared.Rule.{Rule}
 use Rattle.ap_pieces.specs.declared.pieces.Mention.{Mention}
-use Rattle.ap_bindings.specs.Bound.{Names, is_closed, IsBound}
+use Rattle.ap_pieces.specs.Bound.{Names, is_closed, IsBound}
 use Rattle.ap_bindings.specs.Searches.{names_in, also, AreRules, marked_in, bound_in}
 use Rattle.ap_bindings.proofs.BindingLemmas.{if_ok}
 use Rattle.ap_bindings.proofs.binding.bound_by.Goals as goal

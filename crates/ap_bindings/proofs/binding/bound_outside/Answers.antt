@@ -3,7 +3,7 @@ use Rattle.std.specs.Prelude.{flat_map}
 use Rattle.std.specs.List.{list_all}
 use Rattle.definite.specs.declared.Rule.{Rule}
 use Rattle.ap_pieces.specs.declared.pieces.Mention.{Mention}
-use Rattle.ap_bindings.specs.Bound.{Names, is_closed, plain_mentions, IsBound, no_names}
+use Rattle.ap_pieces.specs.Bound.{Names, is_closed, plain_mentions, IsBound, no_names}
 use Rattle.ap_bindings.specs.Searches.{names_in, also, AreRules, marked_in}
 use Rattle.ap_bindings.proofs.BindingLemmas.{if_ok, without_given}
 use Rattle.ap_bindings.proofs.binding.bound_outside.Goals as goal

@@ -2,7 +2,7 @@ use Rattle.std.proofs.Common.{arith, sym, ◌∙◌, ap, Bool, ◌&&◌, ◌+◌
 use Rattle.std.specs.List.{list_all}
 use Rattle.ap_pieces.specs.declared.variables.Occurrence.{Occurrence}
 use Rattle.std.proofs.lemmas.List.Folds.{list_all_more}
-use Rattle.ap_bindings.specs.Bound.{Names}
+use Rattle.ap_pieces.specs.Bound.{Names}
 use Rattle.ap_bindings.specs.Searches.{names_in, also, has_counted}
 use Rattle.ap_bindings.proofs.BindingLemmas.{grows_twice, listed_same}
 use Rattle.ap_bindings.proofs.binding.numbers_of.Goals as goal

@@ -4,7 +4,7 @@ use Rattle.std.specs.List.{list_all}
 use Rattle.std.proofs.lemmas.List.Folds.{list_all-append}
 use Rattle.ap_bindings.proofs.TakeLemmas.{flat_take}
 use Rattle.ap_pieces.specs.declared.pieces.Mention.{Mention}
-use Rattle.ap_bindings.specs.Bound.{Names, is_closed, plain_mentions}
+use Rattle.ap_pieces.specs.Bound.{Names, is_closed, plain_mentions}
 use Rattle.ap_bindings.specs.Searches.{names_in, also}
 use Rattle.ap_bindings.proofs.BindingLemmas.{grows_twice, rules_same}
 use Rattle.ap_bindings.proofs.binding.plain_rules.Goals as goal

@@ -1,7 +1,7 @@
 use Rattle.std.proofs.Common.{take}
 use Rattle.std.specs.Prelude.{flat_map}
 use Rattle.std.specs.List.{list_all}
-use Rattle.ap_bindings.specs.Bound.{is_closed, plain_mentions}
+use Rattle.ap_pieces.specs.Bound.{is_closed, plain_mentions}
 use Rattle.ap_bindings.specs.Searches.{names_in, Grows, AreRules, also}
 use Rattle.ap_bindings.proofs.binding.plain_rules.Given as goal
 

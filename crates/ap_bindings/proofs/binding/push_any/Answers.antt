@@ -1,5 +1,5 @@
 use Rattle.std.proofs.Common.{sym, subst, ℕ, Bool, ◌&&◌, List, Option, OnOk}
-use Rattle.ap_bindings.specs.Bound.{Names, has_any_name}
+use Rattle.ap_pieces.specs.Bound.{Names, has_any_name}
 use Rattle.ap_bindings.specs.Searches.{names_in, also, IsListed}
 use Rattle.ap_bindings.proofs.binding.push_any.Goals as goal
 

@@ -1,7 +1,7 @@
 use Rattle.std.proofs.Common.{sym, subst, ℕ, true, ◌&&◌, List}
 use Rattle.std.specs.List.{list_all}
 use Rattle.definite.specs.declared.Rule.{Rule}
-use Rattle.ap_bindings.specs.Bound.{has_argument}
+use Rattle.ap_pieces.specs.Bound.{has_argument}
 use Rattle.ap_bindings.specs.Searches.{names_in, also, IsListed, AreRules}
 use Rattle.ap_bindings.proofs.BindingLemmas.{listed_none, rules_push}
 use Rattle.ap_bindings.proofs.binding.push_arguments.Goals as goal

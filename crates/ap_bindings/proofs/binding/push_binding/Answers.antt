@@ -2,7 +2,7 @@ use Rattle.std.proofs.Common.{sym, ap, subst, ℕ, not, ◌&&◌, ◌||◌, List
 use Rattle.definite.specs.declared.Rule.{Rule}
 use Rattle.ap_pieces.specs.declared.pieces.Side.TheVariants as side
 use Rattle.ap_pieces.specs.Pieces.{side_occurrences}
-use Rattle.ap_bindings.specs.Bound.{has_all, binds_side}
+use Rattle.ap_pieces.specs.Bound.{has_all, binds_side}
 use Rattle.ap_bindings.specs.Searches.{names_in, also, IsListedTerm, AreRules}
 use Rattle.ap_bindings.proofs.BindingLemmas.{grows_twice, listed_grows, rules_push, rules_kept, rules_grow}
 use Rattle.ap_bindings.proofs.binding.push_binding.Goals as goal

@@ -2,7 +2,7 @@ use Rattle.std.proofs.Common.{sym, subst, Bool, ◌&&◌, List, OnOk}
 use Rattle.std.specs.List.{list_all}
 use Rattle.ap_pieces.specs.declared.variables.Occurrence.{Occurrence}
 use Rattle.ap_pieces.specs.declared.pieces.Mention.{Mention}
-use Rattle.ap_bindings.specs.Bound.{Names, has_argument, is_closed}
+use Rattle.ap_pieces.specs.Bound.{Names, has_argument, is_closed}
 use Rattle.ap_bindings.specs.Searches.{names_in, also, AreRules}
 use Rattle.ap_bindings.proofs.binding.push_mention.Goals as goal
 

@@ -1,6 +1,6 @@
 use Rattle.std.proofs.Common.{sym, ◌∙◌, ap, Bool, ◌&&◌}
 use Rattle.std.specs.List.{list_all}
-use Rattle.ap_bindings.specs.Bound.{Names, is_closed, plain_mentions}
+use Rattle.ap_pieces.specs.Bound.{Names, is_closed, plain_mentions}
 use Rattle.ap_bindings.specs.Searches.{names_in, also, AreRules}
 use Rattle.ap_bindings.proofs.BindingLemmas.{on_ok, rules_same, one_mention}
 use Rattle.ap_bindings.proofs.binding.push_plain.Goals as goal

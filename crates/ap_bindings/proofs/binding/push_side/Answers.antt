@@ -1,6 +1,6 @@
 use Rattle.std.proofs.Common.{sym, subst, Bool, ◌&&◌, OnOk}
 use Rattle.ap_pieces.specs.declared.pieces.Side.{Side}
-use Rattle.ap_bindings.specs.Bound.{Names, binds_side}
+use Rattle.ap_pieces.specs.Bound.{Names, binds_side}
 use Rattle.ap_bindings.specs.Searches.{names_in, also, AreRules}
 use Rattle.ap_bindings.proofs.binding.push_side.Goals as goal
 

@@ -1,5 +1,5 @@
 use Rattle.std.proofs.Common.{Bool, ◌&&◌}
-use Rattle.ap_bindings.specs.Bound.{Names, binds_side}
+use Rattle.ap_pieces.specs.Bound.{Names, binds_side}
 use Rattle.ap_bindings.specs.Searches.{names_in, also}
 use Rattle.ap_bindings.proofs.BindingLemmas.{rules_both}
 use Rattle.ap_bindings.proofs.binding.push_sides.Goals as goal

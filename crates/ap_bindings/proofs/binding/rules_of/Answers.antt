@@ -2,7 +2,7 @@ use Rattle.std.proofs.Common.{arith, sym, ◌∙◌, ap, Bool, ◌&&◌, ◌+◌
 use Rattle.std.specs.List.{list_all}
 use Rattle.ap_pieces.specs.declared.pieces.Mention.{Mention}
 use Rattle.std.proofs.lemmas.List.Folds.{list_all_more}
-use Rattle.ap_bindings.specs.Bound.{Names, is_closed}
+use Rattle.ap_pieces.specs.Bound.{Names, is_closed}
 use Rattle.ap_bindings.specs.Searches.{names_in, also}
 use Rattle.ap_bindings.proofs.BindingLemmas.{grows_twice, rules_same}
 use Rattle.ap_bindings.proofs.binding.rules_of.Goals as goal

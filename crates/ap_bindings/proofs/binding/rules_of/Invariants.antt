@@ -1,6 +1,6 @@
 use Rattle.std.proofs.Common.{take}
 use Rattle.std.specs.List.{list_all}
-use Rattle.ap_bindings.specs.Bound.{is_closed}
+use Rattle.ap_pieces.specs.Bound.{is_closed}
 use Rattle.ap_bindings.specs.Searches.{names_in, Grows, AreRules, also}
 use Rattle.ap_bindings.proofs.binding.rules_of.Given as goal
 

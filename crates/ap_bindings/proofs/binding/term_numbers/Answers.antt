@@ -1,6 +1,6 @@
 use Rattle.std.proofs.Common.{sym, ◌∙◌, true}
 use Rattle.std.specs.List.{list_all}
-use Rattle.ap_bindings.specs.Bound.{has_all}
+use Rattle.ap_pieces.specs.Bound.{has_all}
 use Rattle.ap_bindings.specs.Searches.{names_in, also, has_counted}
 use Rattle.ap_bindings.proofs.BindingLemmas.{listed_same, all_named, not_all_named}
 use Rattle.ap_bindings.proofs.binding.term_numbers.Goals as goal

@@ -1,6 +1,6 @@
 use Rattle.std.proofs.Common.{◌≡◌, ◌||◌, take, List, ℕ}
 use Rattle.std.specs.List.{list_any}
-use Rattle.ap_bindings.specs.Bound.{is_name_of}
+use Rattle.ap_pieces.specs.Bound.{is_name_of}
 use Rattle.ap_bindings.specs.Searches.{names_in}
 use Rattle.ap_bindings.proofs.globals.add_all.Given as goal
 

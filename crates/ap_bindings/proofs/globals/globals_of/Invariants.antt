@@ -1,7 +1,7 @@
 use Rattle.std.proofs.Common.{◌≡◌, take, List, ℕ}
 use Rattle.std.specs.Prelude.{flat_map}
 use Rattle.std.specs.List.{list_any}
-use Rattle.ap_bindings.specs.Bound.{is_name_of, global_occurrences}
+use Rattle.ap_pieces.specs.Bound.{is_name_of, global_occurrences}
 use Rattle.ap_bindings.specs.Searches.{names_in}
 use Rattle.ap_bindings.proofs.globals.globals_of.Given as goal
 

@@ -1,6 +1,6 @@
 use Rattle.std.proofs.Common.{subst}
 use mathlib.Core.Path.{fun_ext}
-use Rattle.ap_bindings.specs.Bound.{Names, AreLooseOf}
+use Rattle.ap_pieces.specs.Bound.{Names, AreUnboundAmong}
 use Rattle.ap_bindings.specs.Searches.{names_in, marked_in, IsFirstAmong, IsFirstUnbound}
 use Rattle.ap_bindings.proofs.BindingLemmas.{if_ok}
 use Rattle.ap_bindings.proofs.unbound.first_unbound.Goals as goal
@@ -10,6 +10,6 @@ returns c =
     let outside = marked_in c.in_ok-outside.outside in
     let global = names_in c.in_ok-globals.globals in
     let pieces = c.args.pieces.now in
-    if_ok c.loose_among.result (IsFirstAmong global outside pieces) (IsFirstUnbound pieces)
-    (λ first f. (f.0, (outside, c.in_ok-outside.ensures, subst (λ (g : Names). AreLooseOf g outside pieces f.0) (fun_ext c.in_ok-globals.ensures) f.1), f.2))
-    c.loose_among.ensures
+    if_ok c.unbound_among.result (IsFirstAmong global outside pieces) (IsFirstUnbound pieces)
+    (λ first f. (f.0, (outside, c.in_ok-outside.ensures, subst (λ (g : Names). AreUnboundAmong g outside pieces f.0) (fun_ext c.in_ok-globals.ensures) f.1), f.2))
+    c.unbound_among.ensures

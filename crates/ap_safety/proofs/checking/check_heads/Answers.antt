@@ -4,11 +4,10 @@ use Rattle.ap_safety.specs.declared.conditions.RuleFault.TheVariants.{Recursion}
 use Rattle.ap_bindings.specs.Texts.{IsFirstFailing}
 use Rattle.ap_safety.specs.Conditions.{rule_place}
 use Rattle.ap_safety.specs.Tests.{HasFault}
-use Rattle.ap_safety.proofs.JudgeLemmas.{safe_of}
 use Rattle.ap_safety.proofs.checking.check_heads.Goals as goal
 
 pub returns-in-None : goal.returns-in-None
 returns-in-None c =
     let rules = c.args.rules.now in
     let none = subst (IsFirstFailing rule_place (HasFault Recursion c.args.safe.base rules) (λ rule told. ⊤) rules) c.in-None.is c.in-Ok.ensures in
-    (c.requires.aggregates, none, safe_of rules c.args.safe c.requires.judged, refl)
+    (c.requires.aggregates, none, c.requires.known, refl)

@@ -1,7 +1,0 @@
-use Rattle.std.proofs.Common.{◌≡◌, drop}
-use Rattle.ap_bindings.specs.Bound.{loose_arguments}
-use Rattle.ap_bindings.specs.Searches.{good_in, first_name}
-use Rattle.ap_bindings.proofs.loose.first_loose_argument.Given as goal
-
-abbrev pub invariant-loop-occurrence : goal.invariant-loop-occurrence
-invariant-loop-occurrence l = first_name (loose_arguments (good_in l.scope) l.occurrences) ≡ first_name (loose_arguments (good_in l.scope) (drop l.occurrence-index l.occurrences))

@@ -1,6 +1,0 @@
-use Rattle.std.proofs.Common.{◌≡◌, ◌++◌, drop, flat_map}
-use Rattle.ap_safety.specs.Judged.{inner_nodes}
-use Rattle.ap_safety.proofs.decided.push_inner.Given as goal
-
-abbrev pub invariant-loop-edge : goal.invariant-loop-edge
-invariant-loop-edge l = l.initial.nodes ++ flat_map (inner_nodes l.preds l.numbers) l.edges ≡ l.nodes ++ flat_map (inner_nodes l.preds l.numbers) (drop l.edge-index l.edges)
