@@ -1,6 +1,7 @@
-//! The outside: sources and sinks that count their faults, and the statuses.
+//! The outside: sources and sinks that count their faults, the statuses, and the budget of a run.
 #![tactic(auto)]
 
+mod budget;
 mod fakes;
 mod files;
 mod mem_sink;
@@ -10,6 +11,7 @@ mod reading;
 mod status;
 mod writing;
 
+pub use budget::Budget;
 pub use files::{FileSink, FileSource, OutSink};
 pub use mem_sink::MemSink;
 pub use mem_source::{MemSource, NamedBytes};

@@ -30,7 +30,14 @@ impl Model for MemSink {
 
     ghost Value = { SinkState };
 
-    ghost view = { λ s. record { bytes = s.bytes.items; room = s.room; fails = s.fails.items; calls = s.calls; piece = s.piece; faults = s.faults } };
+    ghost view = { λ s. record {
+      bytes = s.bytes.items;
+      room = s.room;
+      fails = s.fails.items;
+      calls = s.calls;
+      piece = s.piece;
+      faults = s.faults;
+    } };
 
     ghost invariant = { λ s. (0 < s.piece) × (s.room ≤ vec_capacity s.bytes) };
 }

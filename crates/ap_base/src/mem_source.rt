@@ -40,7 +40,16 @@ impl Model for MemSource {
 
     ghost Value = { SourceState };
 
-    ghost view = { λ s. record { inputs = inputs_of s.files.items; left = left_of s.files.items s.current s.from; fails = s.fails.items; calls = s.calls; piece = s.piece; faults = s.faults; opens = s.opens; absent = s.absent } };
+    ghost view = { λ s. record {
+      inputs = inputs_of s.files.items;
+      left = left_of s.files.items s.current s.from;
+      fails = s.fails.items;
+      calls = s.calls;
+      piece = s.piece;
+      faults = s.faults;
+      opens = s.opens;
+      absent = s.absent;
+    } };
 
     ghost invariant = { λ s. 0 < s.piece };
 }

@@ -42,10 +42,12 @@ fn read_input<S: Source>(
     ensures all { IsTrue S.tells → IfOk result (λ bytes. find_input (S.held src.old) name.now ≡ Some bytes.items) }
     ensures fits { IfOk result (λ bytes. vec_len bytes ≤ room) }
     ensures kept { OnOk result (S.faults src.new ≡ S.faults src.old) }
-    ensures cause { IfErr result (InputFaultCause S.tells (find_input (S.held src.old) name.now) room opened (S.faults src.old) (S.faults src.new)) }
+    ensures cause { IfErr result (InputFaultCause S.tells (find_input (S.held src.old) name.now) room opened
+        (S.faults src.old) (S.faults src.new)) }
     ensures held { S.held src.new ≡ S.held src.old }
     ensures opens { S.opens src.new ≡ counted (S.opens src.old) 1 }
-    ensures absent { IsTrue S.tells → IsTrue (is_held (S.held src.old) name.now) → S.absent src.new ≡ S.absent src.old }
+    ensures absent { IsTrue S.tells → IsTrue (is_held (S.held src.old) name.now)
+        → S.absent src.new ≡ S.absent src.old }
 {
     src.open(name).map_err(|_| ReadFault::Source(opened))?;
     let mut bytes = Vec::new(alloc);
@@ -86,7 +88,8 @@ pub fn read_all<S: Source>(
         (S.faults src.old) (S.faults src.new) (S.opens src.old) (S.opens src.new)) }
     ensures before { IfErr result (ReadBefore S.tells (S.held src.old) (texts_of names.now) MAX_BYTES) }
     ensures held { S.held src.new ≡ S.held src.old }
-    ensures absent { IsTrue S.tells → AllHeld (S.held src.old) (texts_of names.now) → S.absent src.new ≡ S.absent src.old }
+    ensures absent { IsTrue S.tells → AllHeld (S.held src.old) (texts_of names.now)
+        → S.absent src.new ≡ S.absent src.old }
 {
     let mut files = Vec::new(alloc);
     let mut room = MAX_BYTES;

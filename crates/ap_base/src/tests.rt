@@ -171,13 +171,15 @@ fn files(rt: HostRuntime) -> Result<(), Fail> {
     let mut out = FileSink::new(&rt);
     assert_eq!(rt; out.write(b"x"), Err(Failed), "no file is open");
     assert_eq!(rt; put(&mut out, "no_such_folder/file", b"x"), Err(Failed));
-    assert_eq!(rt; put(&mut out, "ap_base_test.txt", b"some\nlines\n"), Ok(()));
+    assert_eq!(rt; put(&mut out, "ap_base_one.txt", b"some\nlines\n"), Ok(()));
+    assert_eq!(rt; put(&mut out, "ap_base_two.txt", b"more"), Ok(()));
     let mut src = FileSource::new(&rt);
     assert_eq!(rt; src.read(&mut [0u8; 4]), Err(Failed), "no file is open");
-    let read = reading(alloc, "ap_base_test.txt ap_base_test.txt", &mut src)?;
-    let absent = reading(alloc, "ap_base_test.txt ap_base_absent.txt", &mut src)?;
-    fs::remove_file(&rt, "ap_base_test.txt")?;
-    assert_eq!(rt; read.as_str(), "some\nlines\n|some\nlines\n|");
+    let read = reading(alloc, "ap_base_one.txt ap_base_two.txt", &mut src)?;
+    let absent = reading(alloc, "ap_base_two.txt ap_base_absent.txt", &mut src)?;
+    fs::remove_file(&rt, "ap_base_one.txt")?;
+    fs::remove_file(&rt, "ap_base_two.txt")?;
+    assert_eq!(rt; read.as_str(), "some\nlines\n|more|");
     assert_eq!(rt; absent.as_str(), "the source failed at input 2");
     Ok(())
 }
@@ -223,5 +225,14 @@ fn codes(rt: HostRuntime) {
     ];
     for (status, code) in rows {
         assert_eq!(rt; status.code(), code, "{status:?}");
+    }
+}
+
+#[test]
+fn budgets(rt: HostRuntime) {
+    let mut budget = Budget { left: 2 };
+    for (well, left) in [(true, 1), (true, 0), (false, 0), (false, 0)] {
+        assert_eq!(rt; budget.take(), well);
+        assert_eq!(rt; budget.left, left);
     }
 }
