@@ -1,8 +1,8 @@
 -- What holds after permitted events: each event keeps it.
-use Rattle.std.proofs.Common.{◌≡◌, ◌≢◌, ℕ, zero, suc, ◌+◌, ◌<◌, Bool, true, false, ◌||◌, List, [], ◌∷◌, ◌++◌, length, refl, sym, ap, ◌∙◌, subst, Option, Some, None, ⊎_elim, inl, inr, arith, slice_set, eqb-true, eq-eqb}
+use Rattle.std.proofs.Common.{◌≡◌, ◌≢◌, ℕ, zero, suc, ◌<◌, Bool, true, false, List, [], ◌∷◌, ◌++◌, length, refl, sym, ap, ◌∙◌, subst, Option, Some, None, ⊎_elim, inl, inr, arith, slice_set, eqb-true, eq-eqb}
 use Rattle.std.specs.Prelude.{◌⊎◌, ◌==◌, All, IsSome, IsSomeAnd, if◌then◌else◌, get_or}
-use Rattle.std.specs.List.{AllPairs, Contains, list_any}
-use Rattle.std.proofs.lemmas.Bool.{cases_Bool, cases_eq, false≢true, true≢false, or_cases, or_left, or_right}
+use Rattle.std.specs.List.{AllPairs, Contains}
+use Rattle.std.proofs.lemmas.Bool.{cases_Bool, cases_eq, false≢true, or_cases, or_left, or_right}
 use Rattle.std.proofs.lemmas.List.Elements.{All-append, All-cons, All-nil, All-tail, Contains-append_left, Contains-push, Contains-push_cases}
 use Rattle.std.proofs.lemmas.List.Folds.{list_any_at}
 use Rattle.std.proofs.lemmas.List.Kept.{AllPairs-cons}
@@ -14,8 +14,8 @@ use Rattle.ground_form.specs.Sets.{has}
 use Rattle.opt_core.specs.declared.events.Event.{Event}
 use Rattle.opt_core.specs.declared.events.Event.TheVariants.{Start, Better, Stuck, Dry}
 use Rattle.opt_core.specs.declared.events.Passed.{Passed}
-use Rattle.opt_core.specs.Numbers.{next_number, number_of, IsNewSet}
-use Rattle.opt_core.specs.States.{CoreView, at_chain, begin, is_among, with_closed, with_new, with_passed, with_printed}
+use Rattle.opt_core.specs.Numbers.{next_number, IsNewSet}
+use Rattle.opt_core.specs.States.{CoreView, at_chain, begin, is_among, with_closed, with_new, with_printed}
 use Rattle.opt_core.specs.Folds.{after, after_all, after_better, bettered, stopped}
 use Rattle.opt_core.specs.Optima.{IsUnbeaten}
 use Rattle.opt_core.specs.Permitted.{ArePermitted, HoldsOf, IsBeatenBy, IsPassedBy, IsPermitted}

@@ -1,6 +1,6 @@
 -- The numbers of sets that were met.
-use Rattle.std.proofs.Common.{◌≡◌, ◌≢◌, ℕ, zero, suc, ◌+◌, ◌<◌, ◌≤◌, Bool, true, false, ◌||◌, List, [], ◌∷◌, ◌++◌, length, get_or, refl, sym, ap, ap₂, ◌∙◌, subst, Option, Some, None, ⊎_elim, inl, inr, arith, eqb-true, eq-eqb, cond}
-use Rattle.std.specs.Prelude.{◌⊎◌, ◌==◌, ◌↔◌, slice_get, IsSome, IsNone, All, if◌then◌else◌, nat_eq}
+use Rattle.std.proofs.Common.{◌≡◌, ◌≢◌, ℕ, zero, suc, ◌+◌, ◌<◌, ◌≤◌, Bool, true, false, ◌||◌, List, [], ◌∷◌, ◌++◌, length, refl, sym, ap, ap₂, ◌∙◌, subst, Option, Some, None, ⊎_elim, inl, inr, arith, eqb-true, eq-eqb, cond}
+use Rattle.std.specs.Prelude.{◌⊎◌, ◌↔◌, slice_get, IsSome, IsNone, if◌then◌else◌}
 use Rattle.std.specs.Bool.{Decides}
 use Rattle.std.specs.List.{AllPairs, list_any, position, position_from}
 use Rattle.std.specs.Option.{option_map}

@@ -1,6 +1,6 @@
 -- The sets of open chains were met, whatever happens to a chain.
-use Rattle.std.proofs.Common.{◌≡◌, ℕ, zero, suc, Bool, true, false, not, List, [], ◌∷◌, ◌++◌, length, refl, sym, ap, ◌∙◌, subst, Option, Some, None, ⊎_elim, slice_set, replicate}
-use Rattle.std.specs.Prelude.{◌⊎◌, IsSome, if◌then◌else◌}
+use Rattle.std.proofs.Common.{◌≡◌, ℕ, Bool, true, false, not, List, [], ◌∷◌, ◌++◌, refl, sym, ap, ◌∙◌, subst, Option, Some, None, ⊎_elim, slice_set, replicate}
+use Rattle.std.specs.Prelude.{IsSome, if◌then◌else◌}
 use Rattle.std.proofs.lemmas.Option.{none-some}
 use Rattle.std.proofs.lemmas.Bool.{false≢true, true≢false}
 use Rattle.ground_form.specs.declared.atoms.AtomId.{AtomId}
@@ -9,7 +9,6 @@ use Rattle.ground_form.specs.Programs.{numbered}
 use Rattle.opt_core.specs.Numbers.{next_number}
 use Rattle.opt_core.specs.States.{CoreView, at_chain, is_among}
 use Rattle.opt_core.specs.Folds.{stuck_output}
-use Rattle.opt_core.specs.declared.events.Output.{Output}
 use Rattle.opt_core.specs.declared.events.Output.TheVariants.{Print, Closed}
 use Rattle.opt_core.proofs.ChainLemmas.{at_closed, at_taken, none_open}
 use Rattle.opt_core.proofs.MetLemmas.{is_some_at, numbered_new, some_on}

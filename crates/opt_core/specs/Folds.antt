@@ -1,5 +1,5 @@
 -- The state after events, and what comes of them.
-use Rattle.std.specs.Prelude.{◌≡◌, ℕ, ◌<◌, Bool, true, false, List, [], ◌∷◌, Option, Some, None, IsSome, length, if◌then◌else◌}
+use Rattle.std.specs.Prelude.{◌≡◌, ℕ, ◌<◌, true, false, List, [], ◌∷◌, Option, Some, None, IsSome, length, if◌then◌else◌}
 use Rattle.ground_form.specs.declared.atoms.AtomId.{AtomId}
 use Rattle.ground_form.specs.declared.atoms.SetId.{SetId}
 use Rattle.opt_core.specs.declared.events.Event.{Event}
@@ -9,15 +9,16 @@ use Rattle.opt_core.specs.declared.events.Output.TheVariants.{Nothing, Print, Cl
 use Rattle.opt_core.specs.States.{CoreView, at_chain, is_among, with_new, with_passed, with_closed, with_printed}
 use Rattle.opt_core.specs.Numbers.{next_number, number_of, IsNewSet}
 
--- What the state itself tells of an event: only a closed chain starts, with a new set, and before the search has ended; only
--- an open one goes on; and the search ends once, when all chains are closed.
+-- What the state itself tells of an event: only a closed chain starts, with a new set, and before the search has
+-- ended; only an open one goes on; and the search ends once, when all chains are closed.
 abbrev pub May : CoreView → Event → Type 0
 May s (Start c x) = (c < length s.chains) × (at_chain s.chains c ≡ None) × IsNewSet s.met x × (s.ended ≡ false)
 May s (Better c x) = IsSome (at_chain s.chains c)
 May s (Stuck c) = IsSome (at_chain s.chains c)
 May s Dry = ((c : ℕ) → at_chain s.chains c ≡ None) × (s.ended ≡ false)
 
--- Set i of a chain is passed by the set x. Where x was met, under number j, the chain is closed; else it has x from now on.
+-- Set i of a chain is passed by the set x. Where x was met, under number j, the chain is closed; else it has x from
+-- now on.
 abbrev pub after_better : CoreView → ℕ → List AtomId → SetId → Option SetId → CoreView
 after_better s c x i None = with_new (with_passed s i (next_number s.met)) c x
 after_better s c x i (Some j) = with_closed (with_passed s i j) c

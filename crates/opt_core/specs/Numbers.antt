@@ -1,5 +1,5 @@
 -- The numbers of sets that were met.
-use Rattle.std.specs.Prelude.{◌≡◌, ◌≢◌, ℕ, suc, ◌<◌, ◌^◌, Bool, List, All, Option, Some, length, nat_eq}
+use Rattle.std.specs.Prelude.{◌≢◌, ℕ, suc, ◌<◌, ◌^◌, Bool, List, All, Option, length, nat_eq}
 use Rattle.std.specs.List.{AllPairs, position}
 use Rattle.std.specs.Option.{option_map}
 use Rattle.std.specs.Ordering.{on}

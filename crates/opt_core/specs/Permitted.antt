@@ -1,5 +1,5 @@
 -- Which events are permitted, in any family of sets with any relation of preference; and what holds after them.
-use Rattle.std.specs.Prelude.{◌≡◌, ◌≢◌, ℕ, Bool, true, false, ◌⊎◌, List, [], ◌∷◌, Option, Some, None, IsSome, IsSomeAnd}
+use Rattle.std.specs.Prelude.{◌≡◌, ◌≢◌, ℕ, Bool, true, false, ◌⊎◌, List, [], ◌∷◌, Some, None, IsSome, IsSomeAnd}
 use Rattle.std.specs.List.{AllPairs, Contains}
 use Rattle.ground_form.specs.declared.atoms.AtomId.{AtomId}
 use Rattle.ground_form.specs.declared.atoms.SetId.{SetId}
@@ -51,11 +51,11 @@ module _ (IsAnswer : (ℕ → Bool) → Type 0) (IsPreferred : (ℕ → Bool) �
   IsBeatenBy met i j =
       (x y : List AtomId) × (numbered met i.0 ≡ Some x) × (numbered met j.0 ≡ Some y) × IsPreferred (has y) (has x)
 
-  -- What holds after permitted events. Each set that was met is one of the sets, no set was met twice, and each that was met is
-  -- printed, is passed, or is the set of an open chain. A set that is passed is passed by one that is preferred to it; a set that
-  -- is printed is met, none is preferred to it, and it is printed once. The set of an open chain is met, it is neither printed nor
-  -- passed, and no other chain has it. Where the search has ended, every chain is closed, and each of the sets was met or has a
-  -- preferred one that was met.
+  -- What holds after permitted events. Each set that was met is one of the sets, no set was met twice, and each that
+  -- was met is printed, is passed, or is the set of an open chain. A set that is passed is passed by one that is
+  -- preferred to it; a set that is printed is met, none is preferred to it, and it is printed once. The set of an
+  -- open chain is met, it is neither printed nor passed, and no other chain has it. Where the search has ended, every
+  -- chain is closed, and each of the sets was met or has a preferred one that was met.
   pub record HoldsOf (s : CoreView) : Type 0 where
     pub answers : (i : SetId) (x : List AtomId) → numbered s.met i.0 ≡ Some x → IsAnswer (has x)
     pub met_once : AllPairs (λ x y. x ≢ y) s.met

@@ -7,9 +7,9 @@ use Rattle.ground_form.specs.Programs.{numbered}
 use Rattle.opt_core.specs.declared.events.Passed.{Passed}
 use Rattle.opt_core.specs.Numbers.{next_number}
 
--- The sets that were met, in order, each under its number from 1; the sets that were passed, each with that of the set that
--- passed it; the sets that are printed, in order; the set of each open chain, where the chains are counted from 0; and whether
--- the search has ended.
+-- The sets that were met, in order, each under its number from 1; the sets that were passed, each with that of the
+-- set that passed it; the sets that are printed, in order; the set of each open chain, where the chains are counted
+-- from 0; and whether the search has ended.
 pub record CoreView : Type 0 where
   pub met : List (List AtomId)
   pub passed : List Passed

@@ -16,10 +16,12 @@ use indexmap::IndexSet;
 use std::alloc::{AllocError, Global};
 use std::marker::Model;
 
-/// The state of a search by 1 to 8 chains, each of which goes from an answer set to a preferred one until there is none.
+/// The state of a search by 1 to 8 chains, each of which goes from an answer set to a preferred one until there is
+/// none.
 ///
-/// Contracts see a `CoreView`: the sets that were met, in order, each under its number from 1; which were passed, and by which; which
-/// are printed, in order; the set of each chain that is open; and whether the search has ended. No set is met twice.
+/// Contracts see a `CoreView`: the sets that were met, in order, each under its number from 1; which were passed, and
+/// by which; which are printed, in order; the set of each chain that is open; and whether the search has ended. No
+/// set is met twice.
 #[derive(Drop)]
 pub struct Core {
     met: Met,
@@ -40,7 +42,7 @@ impl Model for Core {
 }
 
 impl Core {
-    /// The state before the first event, of so many chains: 1 to 8, which are numbered from 0.
+    /// The state before the first event, of so many chains: 1 to 8, which are numbered from 0. It takes no memory.
     pub fn new(alloc: Global, chains: u8) -> Core
         requires some { 1 ≤ chains }
         requires few { chains ≤ 8 }
@@ -62,7 +64,8 @@ impl Core {
         self.met.set(id)
     }
 
-    /// The number of a set. None exactly where the set was not met. It looks by a hash of the members.
+    /// The number of a set. None exactly where the set was not met. It looks by a hash of the members,
+    /// and takes no memory.
     pub fn id(&self, set: &AtomSet) -> Option<SetId>
         ensures value { result ≡ number_of self.now.met set.now }
         ensures exact { (i : Number) → (result ≡ Some i) ↔ (numbered self.now.met i.0 ≡ Some set.now) }
@@ -79,9 +82,9 @@ impl Core {
         self.chains.at(chain)
     }
 
-    /// Whether an event may be applied: a chain starts only where there is such a chain and it is closed, with a set that was not met
-    /// and before the search has ended; a chain goes on or is stuck only where it is open; and the search ends once, when all chains
-    /// are closed. It takes no memory.
+    /// Whether an event may be applied: a chain starts only where there is such a chain and it is closed, with a set
+    /// that was not met and before the search has ended; a chain goes on or is stuck only where it is open; and the
+    /// search ends once, when all chains are closed. It takes no memory.
     pub fn may(&self, event: &Event) -> bool
         ensures { IsTrue result ↔ May self.now event.now }
     {
@@ -96,9 +99,9 @@ impl Core {
         }
     }
 
-    /// Applies an event. `Start` answers `Nothing`. `Better` marks the chain's set as passed by the new one; it answers `Closed` where
-    /// the new set was met before, and the chain is closed, and else `Nothing`. `Stuck` closes the chain, and answers `Print` where
-    /// the set was not printed before, and else `Closed`. `Dry` answers `End`.
+    /// Applies an event. `Start` answers `Nothing`. `Better` marks the chain's set as passed by the new one; it
+    /// answers `Closed` where the new set was met before, and the chain is closed, and else `Nothing`. `Stuck` closes
+    /// the chain, and answers `Print` where the set was not printed before, and else `Closed`. `Dry` answers `End`.
     ///
     /// Its one error is want of memory, and leaves the state as it was.
     pub fn apply(&mut self, event: &Event) -> Result<Output, AllocError>

@@ -8,8 +8,8 @@ ghost use Rattle.opt_core.specs.Permitted.{ArePermitted, HoldsOf};
 
 use std::marker::Brand;
 
-/// A family of sets, with a relation of preference. Nothing is asked of either: the family may be infinite, and the relation need not
-/// be an order.
+/// A family of sets, with a relation of preference. Nothing is asked of either: the family may be infinite, and the
+/// relation need not be an order.
 pub trait Family {
     /// Whether a set, given by its test, is one of the family.
     ghost IsAnswer: { (ℕ → Bool) → Type 0 };
@@ -25,10 +25,12 @@ impl Family for Brand {
     ghost IsPreferred = { λ x y. ⊥ };
 }
 
-/// What permitted events leave, in whatever order they come, for any number of chains. It does nothing: its contract is a law.
+/// What permitted events leave, in whatever order they come, for any number of chains. It does nothing: its contract
+/// is a law.
 ///
-/// * `holds`: each set that was met is printed, is passed, or is the set of an open chain; a passed set has a preferred one in the
-///   family, and a printed set has none; no set is met or printed twice, and no two open chains have the same set.
+/// * `holds`: each set that was met is printed, is passed, or is the set of an open chain; a passed set has a
+///   preferred one in the family, and a printed set has none; no set is met or printed twice, and no two open chains
+///   have the same set.
 /// * `optima`: what is printed are optimal sets, each once.
 /// * `listing`: where the search has ended, they are all of them.
 pub fn events_print_the_optima<F: Family>()

@@ -1,4 +1,5 @@
-//! The core of a search for optimal answer sets: which sets were met, passed and printed by several chains of improvement.
+//! The core of a search for optimal answer sets: which sets were met, passed and printed by several chains of
+//! improvement.
 #![tactic(auto)]
 
 mod chains;

@@ -9,7 +9,8 @@ use indexmap::IndexSet;
 use std::alloc::{AllocError, Global};
 use std::marker::Model;
 
-/// The sets that were met, none of them twice. The number of a set is its place in the order in which they were met, counted from 1.
+/// The sets that were met, none of them twice. The number of a set is its place in the order in which they were met,
+/// counted from 1.
 #[derive(Drop)]
 pub struct Met {
     sets: IndexSet<AtomSet>,

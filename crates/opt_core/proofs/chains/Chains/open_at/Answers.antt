@@ -1,4 +1,4 @@
-use Rattle.std.proofs.Common.{rules, arith, ◌≡◌, ◌↔◌, ◌<◌, ◌≤◌, ℕ, None, Some, IsTrue, IsNone, IsSome, IfSome, IfOk, OnOk, OnErr, length, Bool, true, false, List, [], ◌∷◌, ◌++◌, slice_set, refl, sym, ap, ◌∙◌, subst, ⊎_elim, inl, inr}
+use Rattle.std.proofs.Common.{sym, ◌∙◌}
 use Rattle.opt_core.proofs.ChainLemmas.{at_within}
 use Rattle.opt_core.proofs.chains.Chains.open_at.Goals as goal
 

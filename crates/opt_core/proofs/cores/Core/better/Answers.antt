@@ -1,4 +1,3 @@
-use Rattle.std.proofs.Common.{rules, arith, ◌≡◌, ◌↔◌, ◌<◌, ◌≤◌, ℕ, None, Some, IsTrue, IsNone, IsSome, IfSome, IfOk, OnOk, OnErr, length, Bool, true, false, List, [], ◌∷◌, ◌++◌, slice_set, refl, sym, ap, ◌∙◌, subst, ⊎_elim, inl, inr}
 use Rattle.opt_core.proofs.StateLemmas.{shut}
 use Rattle.opt_core.proofs.cores.Core.better.Goals as goal
 

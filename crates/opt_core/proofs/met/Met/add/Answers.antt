@@ -1,6 +1,5 @@
-use Rattle.std.proofs.Common.{rules, arith, ◌≡◌, ◌↔◌, ◌<◌, ◌≤◌, ℕ, None, Some, IsTrue, IsNone, IsSome, IfSome, IfOk, OnOk, OnErr, length, Bool, true, false, List, [], ◌∷◌, ◌++◌, slice_set, refl, sym, ap, ◌∙◌, subst, ⊎_elim, inl, inr}
+use Rattle.std.proofs.Common.{◌≡◌, ℕ, length, [], ◌∷◌, ◌++◌, ap, ◌∙◌}
 use Rattle.ground_form.specs.declared.atoms.SetId.{SetId}
-use Rattle.opt_core.specs.Numbers.{next_number}
 use Rattle.opt_core.proofs.MetLemmas.{added, length_more}
 use Rattle.opt_core.proofs.met.Met.add.Goals as goal
 
