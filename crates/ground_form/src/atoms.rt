@@ -3,6 +3,7 @@ ghost use Rattle.std.specs.Prelude.{◌≡◌, ◌↔◌, IsTrue, IfOk};
 ghost use Rattle.ground_form.specs.Sets.{IsAscending, has};
 
 use std::alloc::{AllocError, Global};
+use std::hash::{Hash, Hasher};
 use std::marker::Model;
 
 /// The number of an atom in a ground program: its place in the list of atoms, counted from 1.
@@ -67,6 +68,43 @@ impl AtomSet {
         Ok(AtomSet {
             ids: Vec::from_slice(alloc, self.ids.as_slice())?,
         })
+    }
+}
+
+impl PartialEq for AtomSet {
+    ghost use Rattle.std.specs.Cmp.{partial_equiv_from_equiv, on_equiv, nat_eq_equiv};
+    ghost use Rattle.std.specs.Cmp.Lexicographic.{lists_equiv};
+    ghost use Rattle.std.specs.Ordering.{on};
+    ghost use Rattle.std.specs.Prelude.{nat_eq};
+    ghost use lib.Pointwise.{pointwise};
+
+    ghost eq = { pointwise (on (λ id. id.0) nat_eq) };
+
+    ghost laws = { partial_equiv_from_equiv (lists_equiv (on_equiv (λ id. id.0) nat_eq_equiv)) };
+
+    fn eq(&self, other: &AtomSet) -> bool {
+        self.ids() == other.ids()
+    }
+}
+
+impl Eq for AtomSet {
+    ghost use Rattle.std.specs.Cmp.{on_equiv, nat_eq_equiv};
+    ghost use Rattle.std.specs.Cmp.Lexicographic.{lists_equiv};
+
+    ghost laws = { lists_equiv (on_equiv (λ id. id.0) nat_eq_equiv) };
+}
+
+impl Hash for AtomSet {
+    ghost use Rattle.std.proofs.Common.{eqb-true, ap};
+    ghost use Rattle.std.specs.Hash as fed;
+    ghost use Rattle.std.specs.Hash.{items_Alike};
+
+    ghost hash_input = { fed.slice (λ id. fed.u64 id.0) };
+
+    ghost respects_eq = { (items_Alike (record { fed = λ x y h. ap fed.u64 (eqb-true x.0 y.0 h) })).fed };
+
+    fn hash<H: Hasher>(&self, state: &mut H) {
+        self.ids().hash(state);
     }
 }
 

@@ -1,0 +1,5 @@
+pub mod ChainLemmas
+pub mod MetLemmas
+pub mod StateLemmas
+pub mod Keeping
+pub mod Listing

@@ -1,0 +1,5 @@
+pub mod Numbers
+pub mod States
+pub mod Folds
+pub mod Optima
+pub mod Permitted
