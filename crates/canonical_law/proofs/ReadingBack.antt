@@ -9,7 +9,6 @@ use Rattle.ap_syntax.specs.declared.rules.HeadForm.{HeadForm}
 use Rattle.ap_syntax.specs.declared.rules.HeadForm.TheVariants as heads
 use Rattle.ap_syntax.specs.declared.preferences.Element.{Element}
 use Rattle.ap_syntax.specs.declared.programs.PartKind.{PartKind}
-use Rattle.ap_syntax.specs.declared.programs.PartKind.TheVariants as parts
 use Rattle.ap_syntax.specs.declared.programs.Program.{Program}
 use Rattle.ap_syntax.specs.declared.programs.Statement.{Statement}
 use Rattle.ap_syntax.specs.declared.programs.Statement.TheVariants as statements
@@ -24,7 +23,7 @@ use Rattle.ap_syntax.specs.Canonical.{canonical_pieces, canonical_text, line_pie
 use Rattle.ap_lex.specs.Tokens.{Reads as TokenReads}
 use Rattle.ap_lex.specs.declared.token.Token.{Token}
 use Rattle.ap_lexemes.specs.Lexemes.{lexemes_of}
-use Rattle.ap_lexemes.specs.Texts.{IsOutcome}
+use Rattle.ap_lexemes.specs.Texts.{AreLexemes, IsOutcome}
 use Rattle.ap_parse.specs.Texts.{IsReading}
 use Rattle.ap_parse.specs.Changes.{changing, same_part}
 use Rattle.ap_parse.specs.Openings.{is_of_type}
@@ -33,7 +32,20 @@ use Rattle.ap_grammar.specs.Values.{Value}
 use Rattle.ap_grammar.specs.Values.Value.{program}
 use Rattle.ap_grammar.specs.Grammar.{Name, grammar, made, rule_of}
 use Rattle.canonical_law.specs.Unplaced.{unplaced, unplaced_element, unplaced_item}
-use Rattle.canonical_law.proofs.Kept.{same_part_is}
+use Rattle.canonical_law.proofs.Kept.{changing_again, changing_formulas, none_left_out, same_formulas, same_part_is}
+use Rattle.limit_law.specs.Programs.{formulas_of}
+use Rattle.limit_law.proofs.FirstLimits.{accepted, other_first, text_tells}
+use Rattle.limit_law.proofs.Tells.{all_in_bounds}
+use Rattle.std.specs.Prelude.{None, length, nat_lt, take}
+use Rattle.std.specs.Str.{IsUtf8}
+use Rattle.std.specs.Str.Lossy.{utf8_valid_len}
+use Rattle.std.proofs.Common.{arith}
+use Rattle.std.proofs.Math.Seq.{take-length}
+use Rattle.std.proofs.lemmas.Bool.Decides.{nat_tests}
+use Rattle.std.proofs.lemmas.Str.{utf8_valid_len-IsUtf8}
+use Rattle.ap_lex.specs.Tokens.{IsTokens, ReadsUpTo}
+use Rattle.ap_lex.proofs.ReadingLemmas.{end_begins_nothing}
+use Rattle.ap_lexemes.specs.Limits.{first_limit}
 use Rattle.canonical_law.specs.ReadsBack.{ReadsBack}
 use Rattle.canonical_law.proofs.Texts.{GoodProgram, lines_clear, text_read}
 use Rattle.canonical_law.proofs.Statements.{GoodStatement}
@@ -135,14 +147,39 @@ changing_good {whole = whole} part (statements.Part file at next ∷ ss) (GoodPr
 
 -- ---- the law
 
-read_back : (whole : Bool) (part : PartKind) (p : Program) → GoodProgram whole part p.statements → (file : ℕ) → ReadsBack whole part p file
-read_back whole part p g file =
+-- a text that is UTF-8 is read to its end
+whole_text : (text : List ℕ) → IsUtf8 text → take (utf8_valid_len text) text ≡ text
+whole_text text u = ap (λ n. take n text) (utf8_valid_len-IsUtf8 text u) ∙ take-length text
+
+no_cut : (n : ℕ) → nat_lt n n ≡ false
+no_cut n = grind (arith, nat_tests)
+
+lexemes_are : (text : List ℕ) (file : ℕ) (ts : List Token) → IsUtf8 text → IsTokens text ts → AreLexemes text file (lexemes_of text file ts) (length text)
+lexemes_are text file ts u r =
+    let e = whole_text text u in
+    record { tokens = ts; reads = subst (λ t. ReadsUpTo t ts (length text)) (sym e) (record { reads = r; stops = end_begins_nothing text }); are = ap (λ t. lexemes_of t file ts) (sym e) }
+
+is_read : (whole : Bool) (part : PartKind) (text : List ℕ) (file : ℕ) (ts : List Token) (ss : List Statement) → IsTokens text ts → IsText grammar (Name.Text whole (is_of_type part)) (lexemes_of text file ts) (program ss)
+    → changing part ss ≡ ss → IsUtf8 text → first_limit (lexemes_of text file ts) ≡ None → IsReading whole part text file (Ok (record { statements = ss }))
+is_read whole part text file ts ss r d c u f = IsReading.program (lexemes_are text file ts u r) (IsOutcome.good d f (no_cut (length text))) (sym c)
+
+read_back : (whole : Bool) (part : PartKind) (p : Program) → GoodProgram whole part p.statements → changing part p.statements ≡ p.statements → all_in_bounds (formulas_of p.statements) ≡ true → (file : ℕ) → ReadsBack whole part p file
+read_back whole part p g c f file =
     let q = tokens_of file (canonical_pieces p) (lines_clear part p.statements [] g) in
     let r = text_read part p.statements g q.spelled in
-    record { statements = r.read; are = record { tokens = q.tokens; are = q.are; text_is = r.text }; same = r.same }
+    let kept = none_left_out part r.read p.statements c r.same in
+    let bounds = ap all_in_bounds (sym (same_formulas r.read) ∙ (ap formulas_of r.same ∙ same_formulas p.statements)) ∙ f in
+    record {
+      statements = r.read;
+      are = record { tokens = q.tokens; are = q.are; text_is = r.text };
+      same = r.same;
+      formulas = other_first _ (formulas_of r.read) (text_tells r.text) bounds;
+      is_read = λ u l. is_read whole part (canonical_text p) file q.tokens r.read q.are r.text kept u l;
+    }
 
-law_of : {whole : Bool} (part : PartKind) (ss : List Statement) (p : Program) → GoodProgram whole part ss → p.statements ≡ changing part ss → (other : ℕ) → ReadsBack whole part p other
-law_of {whole = whole} part ss p g e other = read_back whole part p (good_as e (changing_good part ss g)) other
+law_of : {whole : Bool} (part : PartKind) (ss : List Statement) (p : Program) → GoodProgram whole part ss → all_in_bounds (formulas_of ss) ≡ true → p.statements ≡ changing part ss → (other : ℕ) → ReadsBack whole part p other
+law_of {whole = whole} part ss p g f e other =
+    read_back whole part p (good_as e (changing_good part ss g)) (ap (changing part) e ∙ (changing_again part ss ∙ sym e)) (ap all_in_bounds (ap formulas_of e ∙ changing_formulas part ss) ∙ f) other
 
 text_program : (n : Name) (xs : List Lexeme) (end : ℕ) (b : Bool) (ss : List Statement) → IsOutcome n xs end b (Ok (program ss)) → IsText grammar n xs (program ss)
 text_program n xs end b ss (IsOutcome.good d f c) = d
@@ -153,7 +190,7 @@ from_lexemes e d = rw e at d
 pub law : (whole : Bool) (part : PartKind) (bytes : List ℕ) (file : ℕ) (p : Program) → IsReading whole part bytes file (Ok p) → (other : ℕ) → ReadsBack whole part p other
 law whole part bytes file p (IsReading.program {xs = xs} {end = end} {all = all} a o e) other =
     let d = from_lexemes a.are (text_program _ xs end _ all o) in
-    law_of part all p (statements_good part _ file a.tokens 0 end all a.reads.reads d) e other
+    law_of part all p (statements_good part _ file a.tokens 0 end all a.reads.reads d) (accepted o) e other
 
 -- ---- the canonical text tells no places
 

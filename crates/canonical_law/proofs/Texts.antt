@@ -1,6 +1,6 @@
 -- Whole texts read back.
 use Rattle.std.specs.List.{flat_map}
-use Rattle.std.proofs.Common.{◌≡◌, ℕ, Bool, true, false, cond, List, [], ◌∷◌, ◌++◌, map, refl, sym, ap, subst, ◌∙◌}
+use Rattle.std.proofs.Common.{◌≡◌, ℕ, Bool, List, [], ◌∷◌, ◌++◌, map, refl, sym, ap, subst, ◌∙◌}
 use Rattle.grammar.specs.Fault.{IsText}
 use Rattle.grammar.specs.Form.{Derives, ◌∣◌}
 use Rattle.grammar.specs.Form.Form.{Call, Star}
@@ -8,7 +8,6 @@ use Rattle.ap_syntax.specs.declared.programs.PartKind.{PartKind}
 use Rattle.ap_syntax.specs.declared.programs.PartKind.TheVariants as parts
 use Rattle.ap_syntax.specs.declared.programs.Statement.{Statement}
 use Rattle.ap_syntax.specs.declared.programs.Statement.TheVariants as statements
-use Rattle.ap_syntax.specs.Pieces.{Piece, text_of}
 use Rattle.ap_syntax.specs.Pieces.Piece.{LineFeed}
 use Rattle.ap_syntax.specs.Canonical.{line_pieces, part_pieces, statement_pieces}
 use Rattle.ap_grammar.specs.Lexemes.{Lexeme}

@@ -1,5 +1,6 @@
 -- A canonical text that is read as its program again.
-use Rattle.std.specs.Prelude.{◌≡◌, ℕ, Bool, List, map}
+use Rattle.std.specs.Prelude.{◌≡◌, ◌≢◌, ℕ, Bool, IfSome, List, None, Ok, map}
+use Rattle.std.specs.Str.{IsUtf8}
 use Rattle.grammar.specs.Fault.{IsText}
 use Rattle.ap_syntax.specs.declared.programs.PartKind.{PartKind}
 use Rattle.ap_syntax.specs.declared.programs.Program.{Program}
@@ -10,7 +11,10 @@ use Rattle.ap_grammar.specs.Values.Value.{program}
 use Rattle.ap_lex.specs.declared.token.Token.{Token}
 use Rattle.ap_lex.specs.Tokens.{IsTokens}
 use Rattle.ap_lexemes.specs.Lexemes.{lexemes_of}
+use Rattle.ap_lexemes.specs.Limits.{first_limit}
+use Rattle.ap_lexemes.specs.declared.limit.Limit.TheVariants.{Formula}
 use Rattle.ap_parse.specs.Openings.{is_of_type}
+use Rattle.ap_parse.specs.Texts.{IsReading}
 use Rattle.canonical_law.specs.Unplaced.{unplaced}
 
 -- The statements of a text that begins in a part, with preference statements in the grammar (`whole`) or without, by the
@@ -21,8 +25,12 @@ pub record AreStatementsOf (whole : Bool) (part : PartKind) (text : List ℕ) (f
   pub text_is : IsText grammar (Name.Text whole (is_of_type part)) (lexemes_of text file tokens) (program statements)
 
 -- The canonical text of the program is a text of the grammar, for statements that are those of the program but for their
--- places.
+-- places. No limit of formulas comes first in it. As a text, which is UTF-8, it is read as these statements if it has no
+-- limit: one of nesting or of arity, then.
 pub record ReadsBack (whole : Bool) (part : PartKind) (p : Program) (file : ℕ) : Type 0 where
   pub statements : List Statement
   pub are : AreStatementsOf whole part (canonical_text p) file statements
   pub same : map unplaced statements ≡ map unplaced p.statements
+  pub formulas : IfSome (first_limit (lexemes_of (canonical_text p) file are.tokens)) (λ l. l.which ≢ Formula)
+  pub is_read : IsUtf8 (canonical_text p) → first_limit (lexemes_of (canonical_text p) file are.tokens) ≡ None
+      → IsReading whole part (canonical_text p) file (Ok (record { statements = statements }))
