@@ -26,3 +26,4 @@ pub mod ReadRules
 pub mod ReadPreferences
 pub mod ReadStatements
 pub mod ReadingBack
+pub mod Others

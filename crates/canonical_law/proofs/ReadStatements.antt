@@ -18,8 +18,9 @@ use Rattle.canonical_law.proofs.Numbers.{GoodNumber}
 use Rattle.canonical_law.proofs.Lists.{Each}
 use Rattle.canonical_law.proofs.Elements.{GoodElement}
 use Rattle.canonical_law.proofs.TypeNames.{GoodKind}
-use Rattle.canonical_law.proofs.Statements.{GoodConstant, GoodPart, GoodStatement}
-use Rattle.canonical_law.proofs.Texts.{GoodProgram, is_type}
+use Rattle.canonical_law.proofs.Statements.{GoodConstant, GoodPart, GoodStatement, good_whole}
+use Rattle.ap_parse.specs.Openings.{is_of_type}
+use Rattle.canonical_law.proofs.Texts.{GoodProgram}
 use Rattle.canonical_law.proofs.Fine.{Fine, close_bytes, number_of_token, open_bytes}
 use Rattle.canonical_law.proofs.Says.{Has, Says, SaysName, SaysProgram, SaysStatement}
 
@@ -49,20 +50,20 @@ constant_says (Reads.right (Reads.left (Reads.call {v = v} m))) = named v m
 constant_says (Reads.right (Reads.right (Reads.tok {t = x} e))) = (x.token, _, ap (λ k. constant k x.token []) e, GoodConstant.string)
 
 const_made : (x : Lexeme) (v : Value) (e : Lexeme) (w : Value) (d : Lexeme) → SaysName v → Says Name.Constant w → Says Name.Const (made Name.Const (token x ∷ v ∷ token e ∷ w ∷ token d ∷ []))
-const_made x v e w d m c of_type = rw (m.is, c.2) (record { tree = _; is = refl; good = GoodStatement.const m.good c.3 })
+const_made x v e w d m c whole of_type = rw (m.is, c.2) (record { tree = _; is = refl; good = GoodStatement.const m.good c.3 })
 
 pub const_says : {xs ys : List Fine} {vs : List Value} → Has (rule_of Name.Const) xs ys vs → Says Name.Const (made Name.Const vs)
 const_says (Reads.seq (Reads.tok {t = x} a) (Reads.seq (Reads.call {v = v} m) (Reads.seq (Reads.tok {t = e} b) (Reads.seq (Reads.call {v = w} n) (Reads.tok {t = d} c))))) = const_made x.token v e.token w d.token m n
 
 show_made : (x : Lexeme) (v : Value) (s n d : Lexeme) → SaysName v → GoodNumber (decimal n.bytes) → Says Name.Show (made Name.Show (token x ∷ v ∷ token s ∷ token n ∷ token d ∷ []))
-show_made x v s n d m h of_type = rw m.is (record { tree = _; is = refl; good = GoodStatement.show m.good h })
+show_made x v s n d m h whole of_type = rw m.is (record { tree = _; is = refl; good = GoodStatement.show m.good h })
 
 pub show_says : {xs ys : List Fine} {vs : List Value} → Has (rule_of Name.Show) xs ys vs → Says Name.Show (made Name.Show vs)
 show_says (Reads.seq (Reads.tok {t = x} a) (Reads.seq (Reads.left (Reads.seq (Reads.call {v = v} m) (Reads.seq (Reads.tok {t = s} b) (Reads.tok {t = n} c)))) (Reads.tok {t = d} e))) = show_made x.token v s.token n.token d.token m (number_of_token n c)
-show_says (Reads.seq (Reads.tok {t = x} a) (Reads.seq (Reads.right Reads.empty) (Reads.tok {t = d} e))) = λ of_type. record { tree = _; is = refl; good = GoodStatement.show_none }
+show_says (Reads.seq (Reads.tok {t = x} a) (Reads.seq (Reads.right Reads.empty) (Reads.tok {t = d} e))) = λ whole of_type. record { tree = _; is = refl; good = GoodStatement.show_none }
 
 defined_made : (x : Lexeme) (v : Value) (s n d : Lexeme) → SaysName v → GoodNumber (decimal n.bytes) → Says Name.Defined (made Name.Defined (token x ∷ v ∷ token s ∷ token n ∷ token d ∷ []))
-defined_made x v s n d m h of_type = rw m.is (record { tree = _; is = refl; good = GoodStatement.defined m.good h })
+defined_made x v s n d m h whole of_type = rw m.is (record { tree = _; is = refl; good = GoodStatement.defined m.good h })
 
 pub defined_says : {xs ys : List Fine} {vs : List Value} → Has (rule_of Name.Defined) xs ys vs → Says Name.Defined (made Name.Defined vs)
 defined_says (Reads.seq (Reads.tok {t = x} a) (Reads.seq (Reads.call {v = v} m) (Reads.seq (Reads.tok {t = s} b) (Reads.seq (Reads.tok {t = n} c) (Reads.tok {t = d} e))))) = defined_made x.token v s.token n.token d.token m (number_of_token n c)
@@ -103,21 +104,24 @@ optimize_says (Reads.seq (Reads.tok {t = x} a) (Reads.seq (Reads.tok {t = p} b) 
 
 -- ---- statements
 
-of_rule : (of_type : Bool) (v : Value) → Says (Name.Rule of_type) v → SaysStatement of_type (made (Name.Statement false of_type) (v ∷ []))
+of_rule : (of_type : Bool) (v : Value) → Says (Name.Rule of_type) v → SaysStatement false of_type (made (Name.Statement false of_type) (v ∷ []))
 of_rule of_type v r = rw r.1 (record { tree = _; is = refl; good = GoodStatement.rule r.2 })
 
-of_small : (of_type : Bool) (v : Value) → SaysStatement of_type v → SaysStatement of_type (made (Name.Statement false of_type) (v ∷ []))
+of_small : (of_type : Bool) (v : Value) → SaysStatement false of_type v → SaysStatement false of_type (made (Name.Statement false of_type) (v ∷ []))
 of_small of_type v s = rw s.is (record { tree = s.tree; is = refl; good = s.good })
 
-of_whole : (of_type : Bool) (v : Value) → SaysStatement of_type v → SaysStatement of_type (made (Name.Statement true of_type) (v ∷ []))
+of_whole : (of_type : Bool) (v : Value) → SaysStatement true of_type v → SaysStatement true of_type (made (Name.Statement true of_type) (v ∷ []))
 of_whole of_type v s = rw s.is (record { tree = s.tree; is = refl; good = s.good })
 
-pub statement_says : {xs ys : List Fine} {vs : List Value} (whole of_type : Bool) → Has (rule_of (Name.Statement whole of_type)) xs ys vs → SaysStatement of_type (made (Name.Statement whole of_type) vs)
+without : {of_type : Bool} {v : Value} → SaysStatement false of_type v → SaysStatement true of_type v
+without s = record { tree = s.tree; is = s.is; good = good_whole s.good }
+
+pub statement_says : {xs ys : List Fine} {vs : List Value} (whole of_type : Bool) → Has (rule_of (Name.Statement whole of_type)) xs ys vs → SaysStatement whole of_type (made (Name.Statement whole of_type) vs)
 statement_says false of_type (Reads.left (Reads.call {v = v} m)) = of_rule of_type v m
-statement_says false of_type (Reads.right (Reads.left (Reads.call {v = v} m))) = of_small of_type v (m of_type)
-statement_says false of_type (Reads.right (Reads.right (Reads.left (Reads.call {v = v} m)))) = of_small of_type v (m of_type)
-statement_says false of_type (Reads.right (Reads.right (Reads.right (Reads.call {v = v} m)))) = of_small of_type v (m of_type)
-statement_says true of_type (Reads.left (Reads.call {v = v} m)) = of_whole of_type v m
+statement_says false of_type (Reads.right (Reads.left (Reads.call {v = v} m))) = of_small of_type v (m false of_type)
+statement_says false of_type (Reads.right (Reads.right (Reads.left (Reads.call {v = v} m)))) = of_small of_type v (m false of_type)
+statement_says false of_type (Reads.right (Reads.right (Reads.right (Reads.call {v = v} m)))) = of_small of_type v (m false of_type)
+statement_says true of_type (Reads.left (Reads.call {v = v} m)) = of_whole of_type v (without m)
 statement_says true of_type (Reads.right (Reads.left (Reads.call {v = v} m))) = of_whole of_type v (m of_type)
 statement_says true of_type (Reads.right (Reads.right (Reads.call {v = v} m))) = of_whole of_type v (m of_type)
 
@@ -133,67 +137,67 @@ pub type_opening_says : {xs ys : List Fine} {vs : List Value} → Has (rule_of N
 type_opening_says (Reads.seq (Reads.tok {t = x} a) (Reads.seq (Reads.tok {t = b} e) (Reads.seq (Reads.tok {t = p} f) (Reads.seq (Reads.call {v = v} m) (Reads.seq (Reads.tok {t = c} g) (Reads.tok {t = d} h)))))) = type_opening_made x.token b.token p.token v c.token d.token m
 
 -- statements of one part, before statements that may stand behind any
-record AreStatements (of_type : Bool) (vs : List Value) : Type 0 where
+record AreStatements (whole of_type : Bool) (vs : List Value) : Type 0 where
   trees : List Statement
   are : (ws : List Value) → statements_of (vs ++ ws) ≡ trees ++ statements_of ws
-  good : (part : PartKind) → is_type part ≡ of_type → (more : List Statement) → GoodProgram part more → GoodProgram part (trees ++ more)
+  good : (part : PartKind) → is_of_type part ≡ of_type → (more : List Statement) → GoodProgram whole part more → GoodProgram whole part (trees ++ more)
 
-statement_for : {b c : Bool} {s : Statement} → b ≡ c → GoodStatement c s → GoodStatement b s
+statement_for : {whole b c : Bool} {s : Statement} → b ≡ c → GoodStatement whole c s → GoodStatement whole b s
 statement_for e g = rw (sym e) at g
 
-statement_more : (of_type : Bool) (v : Value) (vs : List Value) → SaysStatement of_type v → AreStatements of_type vs → AreStatements of_type (v ∷ vs)
-statement_more of_type v vs s a = record {
+statement_more : (whole of_type : Bool) (v : Value) (vs : List Value) → SaysStatement whole of_type v → AreStatements whole of_type vs → AreStatements whole of_type (v ∷ vs)
+statement_more whole of_type v vs s a = record {
   trees = s.tree ∷ a.trees;
   are = λ ws. rw s.is (ap (λ ts. s.tree ∷ ts) (a.are ws));
   good = λ part e more g. GoodProgram.alone (statement_for e s.good) (a.good part e more g);
 }
 
-statements_say : {xs ys : List Fine} {vs : List Value} (whole of_type : Bool) → Has (Star (Call (Name.Statement whole of_type))) xs ys vs → AreStatements of_type vs
+statements_say : {xs ys : List Fine} {vs : List Value} (whole of_type : Bool) → Has (Star (Call (Name.Statement whole of_type))) xs ys vs → AreStatements whole of_type vs
 statements_say whole of_type Reads.none = record { trees = []; are = λ ws. refl; good = λ part e more g. g }
-statements_say whole of_type (Reads.more (Reads.call {v = v} m) rest) = statement_more of_type v _ m (statements_say whole of_type rest)
+statements_say whole of_type (Reads.more (Reads.call {v = v} m) rest) = statement_more whole of_type v _ m (statements_say whole of_type rest)
 
-base_made : (v : Value) (vs : List Value) (whole : Bool) → Says Name.BaseOpening v → AreStatements false vs → SaysProgram (made (Name.BaseSection whole) (v ∷ vs))
+base_made : (v : Value) (vs : List Value) (whole : Bool) → Says Name.BaseOpening v → AreStatements whole false vs → SaysProgram whole (made (Name.BaseSection whole) (v ∷ vs))
 base_made v vs whole o a = rw o.2 (record {
   trees = statements.Part o.0 o.1 parts.Base ∷ a.trees;
   is = ap (λ ts. program (statements.Part o.0 o.1 parts.Base ∷ ts)) (ap statements_of (sym (append-nil vs)) ∙ (a.are [] ∙ append-nil a.trees));
   good = λ part. GoodProgram.opening GoodPart.in_base (let g = a.good parts.Base refl [] GoodProgram.none in rw (append-nil a.trees) at g);
 })
 
-pub base_section_says : {xs ys : List Fine} {vs : List Value} (whole : Bool) → Has (rule_of (Name.BaseSection whole)) xs ys vs → SaysProgram (made (Name.BaseSection whole) vs)
+pub base_section_says : {xs ys : List Fine} {vs : List Value} (whole : Bool) → Has (rule_of (Name.BaseSection whole)) xs ys vs → SaysProgram whole (made (Name.BaseSection whole) vs)
 base_section_says whole (Reads.seq (Reads.call {v = v} o) rest) = base_made v _ whole o (statements_say whole false rest)
 
-type_made : (v : Value) (vs : List Value) (whole : Bool) → Says Name.TypeOpening v → AreStatements true vs → SaysProgram (made (Name.TypeSection whole) (v ∷ vs))
+type_made : (v : Value) (vs : List Value) (whole : Bool) → Says Name.TypeOpening v → AreStatements whole true vs → SaysProgram whole (made (Name.TypeSection whole) (v ∷ vs))
 type_made v vs whole o a = rw o.3 (record {
   trees = statements.Part o.0 o.1 (parts.Kind o.2) ∷ a.trees;
   is = ap (λ ts. program (statements.Part o.0 o.1 (parts.Kind o.2) ∷ ts)) (ap statements_of (sym (append-nil vs)) ∙ (a.are [] ∙ append-nil a.trees));
   good = λ part. GoodProgram.opening (GoodPart.in_type o.4) (let g = a.good (parts.Kind o.2) refl [] GoodProgram.none in rw (append-nil a.trees) at g);
 })
 
-pub type_section_says : {xs ys : List Fine} {vs : List Value} (whole : Bool) → Has (rule_of (Name.TypeSection whole)) xs ys vs → SaysProgram (made (Name.TypeSection whole) vs)
+pub type_section_says : {xs ys : List Fine} {vs : List Value} (whole : Bool) → Has (rule_of (Name.TypeSection whole)) xs ys vs → SaysProgram whole (made (Name.TypeSection whole) vs)
 type_section_says whole (Reads.seq (Reads.call {v = v} o) rest) = type_made v _ whole o (statements_say whole true rest)
 
 -- ---- whole texts
 
 -- what may stand behind any part
-record AreSections (vs : List Value) : Type 0 where
+record AreSections (whole : Bool) (vs : List Value) : Type 0 where
   trees : List Statement
   are : statements_of vs ≡ trees
-  good : (part : PartKind) → GoodProgram part trees
+  good : (part : PartKind) → GoodProgram whole part trees
 
-one_more : {part : PartKind} {ss ts : List Statement} → GoodProgram part ss → ((p : PartKind) → GoodProgram p ts) → GoodProgram part (ss ++ ts)
+one_more : {whole : Bool} {part : PartKind} {ss ts : List Statement} → GoodProgram whole part ss → ((p : PartKind) → GoodProgram whole p ts) → GoodProgram whole part (ss ++ ts)
 one_more {part = part} GoodProgram.none h = h part
 one_more (GoodProgram.alone g gs) h = GoodProgram.alone g (one_more gs h)
 one_more (GoodProgram.opening g gs) h = GoodProgram.opening g (one_more gs h)
 
-section_more : (v : Value) (vs : List Value) → SaysProgram v → AreSections vs → AreSections (v ∷ vs)
+section_more : {whole : Bool} (v : Value) (vs : List Value) → SaysProgram whole v → AreSections whole vs → AreSections whole (v ∷ vs)
 section_more v vs s a = record { trees = s.trees ++ a.trees; are = rw s.is (ap (λ ts. s.trees ++ ts) a.are); good = λ part. one_more (s.good part) a.good }
 
-sections_say : {xs ys : List Fine} {vs : List Value} (whole : Bool) → Has (Star (Call (Name.BaseSection whole) ∣ Call (Name.TypeSection whole))) xs ys vs → AreSections vs
+sections_say : {xs ys : List Fine} {vs : List Value} (whole : Bool) → Has (Star (Call (Name.BaseSection whole) ∣ Call (Name.TypeSection whole))) xs ys vs → AreSections whole vs
 sections_say whole Reads.none = record { trees = []; are = refl; good = λ part. GoodProgram.none }
 sections_say whole (Reads.more (Reads.left (Reads.call {v = v} m)) rest) = section_more v _ m (sections_say whole rest)
 sections_say whole (Reads.more (Reads.right (Reads.call {v = v} m)) rest) = section_more v _ m (sections_say whole rest)
 
-text_made : (vs ws : List Value) (whole of_type : Bool) → AreStatements of_type vs → AreSections ws → Says (Name.Text whole of_type) (made (Name.Text whole of_type) (vs ++ ws))
+text_made : (vs ws : List Value) (whole of_type : Bool) → AreStatements whole of_type vs → AreSections whole ws → Says (Name.Text whole of_type) (made (Name.Text whole of_type) (vs ++ ws))
 text_made vs ws whole of_type a b = (a.trees ++ b.trees, ap program (a.are ws ∙ ap (λ ts. a.trees ++ ts) b.are), λ part e. a.good part e b.trees (b.good part))
 
 pub text_says : {xs ys : List Fine} {vs : List Value} (whole of_type : Bool) → Has (rule_of (Name.Text whole of_type)) xs ys vs → Says (Name.Text whole of_type) (made (Name.Text whole of_type) vs)

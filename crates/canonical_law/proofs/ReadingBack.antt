@@ -9,31 +9,45 @@ use Rattle.ap_syntax.specs.declared.rules.HeadForm.{HeadForm}
 use Rattle.ap_syntax.specs.declared.rules.HeadForm.TheVariants as heads
 use Rattle.ap_syntax.specs.declared.preferences.Element.{Element}
 use Rattle.ap_syntax.specs.declared.programs.PartKind.{PartKind}
-use Rattle.ap_syntax.specs.declared.programs.PartKind.TheVariants as parts
 use Rattle.ap_syntax.specs.declared.programs.Program.{Program}
 use Rattle.ap_syntax.specs.declared.programs.Statement.{Statement}
 use Rattle.ap_syntax.specs.declared.programs.Statement.TheVariants as statements
+use Rattle.std.specs.List.{flat_map}
 use Rattle.std.specs.Prelude.{codes}
 use Rattle.ap_syntax.specs.Pieces.{in_braces, in_parentheses, semicolons, spaced, spaced_behind, spelled, text_of}
 use Rattle.ap_syntax.specs.Pieces.Piece.{LineFeed}
 use Rattle.ap_syntax.specs.CanonicalTerms.{atom_pieces}
 use Rattle.ap_syntax.specs.CanonicalRules.{body_pieces, clause_pieces, head_pieces, item_pieces, separator}
 use Rattle.ap_syntax.specs.CanonicalPreferences.{element_pieces, kind_pieces}
-use Rattle.ap_syntax.specs.Canonical.{canonical_text, line_pieces, lines, part_behind, same_part}
+use Rattle.ap_syntax.specs.Canonical.{canonical_pieces, canonical_text, line_pieces}
 use Rattle.ap_lex.specs.Tokens.{Reads as TokenReads}
 use Rattle.ap_lex.specs.declared.token.Token.{Token}
 use Rattle.ap_lexemes.specs.Lexemes.{lexemes_of}
-use Rattle.ap_lexemes.specs.Texts.{IsOutcome}
-use Rattle.ap_parse.specs.Texts as texts
-use Rattle.pref_parse.specs.Readings.{IsReading}
+use Rattle.ap_lexemes.specs.Texts.{AreLexemes, IsOutcome}
+use Rattle.ap_parse.specs.Texts.{IsReading}
+use Rattle.ap_parse.specs.Changes.{changing, same_part}
+use Rattle.ap_parse.specs.Openings.{is_of_type}
 use Rattle.ap_grammar.specs.Lexemes.{Lexeme}
 use Rattle.ap_grammar.specs.Values.{Value}
 use Rattle.ap_grammar.specs.Values.Value.{program}
 use Rattle.ap_grammar.specs.Grammar.{Name, grammar, made, rule_of}
 use Rattle.canonical_law.specs.Unplaced.{unplaced, unplaced_element, unplaced_item}
-use Rattle.canonical_law.proofs.Kept.{kept, kept_is_changing, same_part_is}
+use Rattle.canonical_law.proofs.Kept.{changing_again, changing_formulas, none_left_out, same_formulas, same_part_is}
+use Rattle.limit_law.specs.Programs.{formulas_of}
+use Rattle.limit_law.proofs.FirstLimits.{accepted, other_first, text_tells}
+use Rattle.limit_law.proofs.Tells.{all_in_bounds}
+use Rattle.std.specs.Prelude.{None, length, nat_lt, take}
+use Rattle.std.specs.Str.{IsUtf8}
+use Rattle.std.specs.Str.Lossy.{utf8_valid_len}
+use Rattle.std.proofs.Common.{arith}
+use Rattle.std.proofs.Math.Seq.{take-length}
+use Rattle.std.proofs.lemmas.Bool.Decides.{nat_tests}
+use Rattle.std.proofs.lemmas.Str.{utf8_valid_len-IsUtf8}
+use Rattle.ap_lex.specs.Tokens.{IsTokens, ReadsUpTo}
+use Rattle.ap_lex.proofs.ReadingLemmas.{end_begins_nothing}
+use Rattle.ap_lexemes.specs.Limits.{first_limit}
 use Rattle.canonical_law.specs.ReadsBack.{ReadsBack}
-use Rattle.canonical_law.proofs.Texts.{GoodProgram, lines_clear, stands_alone, text_read}
+use Rattle.canonical_law.proofs.Texts.{GoodProgram, lines_clear, text_read}
 use Rattle.canonical_law.proofs.Statements.{GoodStatement}
 use Rattle.canonical_law.proofs.Tokens.{tokens_of}
 use Rattle.canonical_law.proofs.Fine.{Fine, fine_tokens, lift}
@@ -97,63 +111,86 @@ good_of (Reads.call m) = m
 same_program : {ss ts : List Statement} → program ss ≡ program ts → ss ≡ ts
 same_program e = cc
 
-good_text : (ss : List Statement) → Says (Name.Text true false) (program ss) → GoodProgram parts.Base ss
-good_text ss s = let e = same_program s.1 in let g = s.2 parts.Base refl in rw (sym e) at g
+good_text : {whole of_type : Bool} (part : PartKind) (ss : List Statement) → is_of_type part ≡ of_type → Says (Name.Text whole of_type) (program ss) → GoodProgram whole part ss
+good_text part ss t s = let e = same_program s.1 in let g = s.2 part t in rw (sym e) at g
 
 -- the statements of a text read back
-statements_good : (text : List ℕ) (file : ℕ) (ts : List Token) (from to : ℕ) (ss : List Statement) → TokenReads text from ts to → IsText grammar (Name.Text true false) (lexemes_of text file ts) (program ss) → GoodProgram parts.Base ss
-statements_good text file ts from to ss r d =
+statements_good : {whole : Bool} (part : PartKind) (text : List ℕ) (file : ℕ) (ts : List Token) (from to : ℕ) (ss : List Statement) → TokenReads text from ts to
+    → IsText grammar (Name.Text whole (is_of_type part)) (lexemes_of text file ts) (program ss) → GoodProgram whole part ss
+statements_good part text file ts from to ss r d =
     let q = fine_tokens text file r in
     let l = lift q.0 q.1 d in
-    good_text ss (good_of (read step l.derives))
+    good_text part ss refl (good_of (read step l.derives))
 
 -- ---- without what changes nothing
 
-kept_alone : {of_type : Bool} (part : PartKind) (s : Statement) (ss : List Statement) → GoodStatement of_type s → kept part (s ∷ ss) ≡ s ∷ kept part ss
-kept_alone part s ss g = let a = stands_alone part g in a.first (kept (part_behind part s) ss) ∙ ap (λ b. s ∷ kept b ss) a.behind
+changing_alone : {whole of_type : Bool} {s : Statement} (part : PartKind) (ss : List Statement) → GoodStatement whole of_type s → changing part (s ∷ ss) ≡ s ∷ changing part ss
+changing_alone part ss (GoodStatement.rule h) = refl
+changing_alone part ss (GoodStatement.const h c) = refl
+changing_alone part ss GoodStatement.show_none = refl
+changing_alone part ss (GoodStatement.show h n) = refl
+changing_alone part ss (GoodStatement.defined h n) = refl
+changing_alone part ss (GoodStatement.preference h c gs) = refl
+changing_alone part ss (GoodStatement.optimize h) = refl
 
-good_as : {part : PartKind} {ss ts : List Statement} → ss ≡ ts → GoodProgram part ts → GoodProgram part ss
+good_as : {whole : Bool} {part : PartKind} {ss ts : List Statement} → ss ≡ ts → GoodProgram whole part ts → GoodProgram whole part ss
 good_as e g = rw (sym e) at g
 
-kept_good : (part : PartKind) (ss : List Statement) → GoodProgram part ss → GoodProgram part (kept part ss)
-kept_good part [] GoodProgram.none = GoodProgram.none
-kept_good part (s ∷ ss) (GoodProgram.alone g gs) = good_as (kept_alone part s ss g) (GoodProgram.alone g (kept_good part ss gs))
-kept_good part (statements.Part file at next ∷ ss) (GoodProgram.opening g gs) = by (same_part part next) refl (kept_good next ss gs)
+changing_good : {whole : Bool} (part : PartKind) (ss : List Statement) → GoodProgram whole part ss → GoodProgram whole part (changing part ss)
+changing_good part [] GoodProgram.none = GoodProgram.none
+changing_good part (s ∷ ss) (GoodProgram.alone g gs) = good_as (changing_alone part ss g) (GoodProgram.alone g (changing_good part ss gs))
+changing_good {whole = whole} part (statements.Part file at next ∷ ss) (GoodProgram.opening g gs) = by (same_part part next) refl (changing_good next ss gs)
   where
-    by : (b : Bool) → same_part part next ≡ b → GoodProgram next (kept next ss) → GoodProgram part (cond b (kept next ss) (statements.Part file at next ∷ kept next ss))
-    by true e h = subst (λ (p : PartKind). GoodProgram p (kept next ss)) (same_part_is part next e) h
+    by : (b : Bool) → same_part part next ≡ b → GoodProgram whole next (changing next ss) → GoodProgram whole part (cond b (changing part ss) (statements.Part file at next ∷ changing next ss))
+    by true e h = subst (λ (p : PartKind). GoodProgram whole p (changing p ss)) (same_part_is part next e) h
     by false e h = GoodProgram.opening g h
-
-kept_again : (part : PartKind) (ss : List Statement) → GoodProgram part ss → kept part (kept part ss) ≡ kept part ss
-kept_again part [] GoodProgram.none = refl
-kept_again part (s ∷ ss) (GoodProgram.alone g gs) = ap (kept part) (kept_alone part s ss g) ∙ (kept_alone part s (kept part ss) g ∙ (ap (λ ts. s ∷ ts) (kept_again part ss gs) ∙ sym (kept_alone part s ss g)))
-kept_again part (statements.Part file at next ∷ ss) (GoodProgram.opening g gs) = by (same_part part next) refl (kept_again next ss gs)
-  where
-    by : (b : Bool) → same_part part next ≡ b → kept next (kept next ss) ≡ kept next ss → kept part (cond b (kept next ss) (statements.Part file at next ∷ kept next ss)) ≡ cond b (kept next ss) (statements.Part file at next ∷ kept next ss)
-    by true e h = subst (λ (p : PartKind). kept p (kept next ss) ≡ kept next ss) (same_part_is part next e) h
-    by false e h = ap (λ (c : Bool). cond c (kept next (kept next ss)) (statements.Part file at next ∷ kept next (kept next ss))) e ∙ ap (λ ts. statements.Part file at next ∷ ts) h
 
 -- ---- the law
 
-read_back : (p : Program) → GoodProgram parts.Base p.statements → kept parts.Base p.statements ≡ p.statements → (file : ℕ) → ReadsBack p file
-read_back p g k file =
-    let q = tokens_of file (lines parts.Base p.statements) (lines_clear parts.Base p.statements [] g) in
-    let r = text_read p.statements g q.spelled in
-    record { statements = r.read; are = record { tokens = q.tokens; are = q.are; text_is = r.text }; same = r.same ∙ ap (map unplaced) k }
+-- a text that is UTF-8 is read to its end
+whole_text : (text : List ℕ) → IsUtf8 text → take (utf8_valid_len text) text ≡ text
+whole_text text u = ap (λ n. take n text) (utf8_valid_len-IsUtf8 text u) ∙ take-length text
 
-law_of : (ss : List Statement) (p : Program) → GoodProgram parts.Base ss → p.statements ≡ kept parts.Base ss → (other : ℕ) → ReadsBack p other
-law_of ss p g e other = read_back p (good_as e (kept_good parts.Base ss g)) (ap (kept parts.Base) e ∙ (kept_again parts.Base ss g ∙ sym e)) other
+no_cut : (n : ℕ) → nat_lt n n ≡ false
+no_cut n = grind (arith, nat_tests)
 
-text_program : (xs : List Lexeme) (end : ℕ) (b : Bool) (ss : List Statement) → IsOutcome (Name.Text true false) xs end b (Ok (program ss)) → IsText grammar (Name.Text true false) xs (program ss)
-text_program xs end b ss (IsOutcome.good d f c) = d
+lexemes_are : (text : List ℕ) (file : ℕ) (ts : List Token) → IsUtf8 text → IsTokens text ts → AreLexemes text file (lexemes_of text file ts) (length text)
+lexemes_are text file ts u r =
+    let e = whole_text text u in
+    record { tokens = ts; reads = subst (λ t. ReadsUpTo t ts (length text)) (sym e) (record { reads = r; stops = end_begins_nothing text }); are = ap (λ t. lexemes_of t file ts) (sym e) }
 
-from_lexemes : {xs ys : List Lexeme} {v : Value} → xs ≡ ys → IsText grammar (Name.Text true false) xs v → IsText grammar (Name.Text true false) ys v
+is_read : (whole : Bool) (part : PartKind) (text : List ℕ) (file : ℕ) (ts : List Token) (ss : List Statement) → IsTokens text ts → IsText grammar (Name.Text whole (is_of_type part)) (lexemes_of text file ts) (program ss)
+    → changing part ss ≡ ss → IsUtf8 text → first_limit (lexemes_of text file ts) ≡ None → IsReading whole part text file (Ok (record { statements = ss }))
+is_read whole part text file ts ss r d c u f = IsReading.program (lexemes_are text file ts u r) (IsOutcome.good d f (no_cut (length text))) (sym c)
+
+read_back : (whole : Bool) (part : PartKind) (p : Program) → GoodProgram whole part p.statements → changing part p.statements ≡ p.statements → all_in_bounds (formulas_of p.statements) ≡ true → (file : ℕ) → ReadsBack whole part p file
+read_back whole part p g c f file =
+    let q = tokens_of file (canonical_pieces p) (lines_clear part p.statements [] g) in
+    let r = text_read part p.statements g q.spelled in
+    let kept = none_left_out part r.read p.statements c r.same in
+    let bounds = ap all_in_bounds (sym (same_formulas r.read) ∙ (ap formulas_of r.same ∙ same_formulas p.statements)) ∙ f in
+    record {
+      statements = r.read;
+      are = record { tokens = q.tokens; are = q.are; text_is = r.text };
+      same = r.same;
+      formulas = other_first _ (formulas_of r.read) (text_tells r.text) bounds;
+      is_read = λ u l. is_read whole part (canonical_text p) file q.tokens r.read q.are r.text kept u l;
+    }
+
+law_of : {whole : Bool} (part : PartKind) (ss : List Statement) (p : Program) → GoodProgram whole part ss → all_in_bounds (formulas_of ss) ≡ true → p.statements ≡ changing part ss → (other : ℕ) → ReadsBack whole part p other
+law_of {whole = whole} part ss p g f e other =
+    read_back whole part p (good_as e (changing_good part ss g)) (ap (changing part) e ∙ (changing_again part ss ∙ sym e)) (ap all_in_bounds (ap formulas_of e ∙ changing_formulas part ss) ∙ f) other
+
+text_program : (n : Name) (xs : List Lexeme) (end : ℕ) (b : Bool) (ss : List Statement) → IsOutcome n xs end b (Ok (program ss)) → IsText grammar n xs (program ss)
+text_program n xs end b ss (IsOutcome.good d f c) = d
+
+from_lexemes : {n : Name} {xs ys : List Lexeme} {v : Value} → xs ≡ ys → IsText grammar n xs v → IsText grammar n ys v
 from_lexemes e d = rw e at d
 
-pub law : (bytes : List ℕ) (file : ℕ) (p : Program) → IsReading bytes file (Ok p) → (other : ℕ) → ReadsBack p other
-law bytes file p (texts.IsReading.program {xs = xs} {end = end} {all = all} a o e) other =
-    let d = from_lexemes a.are (text_program xs end _ all o) in
-    law_of all p (statements_good _ file a.tokens 0 end all a.reads.reads d) (e ∙ sym (kept_is_changing parts.Base all)) other
+pub law : (whole : Bool) (part : PartKind) (bytes : List ℕ) (file : ℕ) (p : Program) → IsReading whole part bytes file (Ok p) → (other : ℕ) → ReadsBack whole part p other
+law whole part bytes file p (IsReading.program {xs = xs} {end = end} {all = all} a o e) other =
+    let d = from_lexemes a.are (text_program _ xs end _ all o) in
+    law_of part all p (statements_good part _ file a.tokens 0 end all a.reads.reads d) (accepted o) e other
 
 -- ---- the canonical text tells no places
 
@@ -183,27 +220,18 @@ same_elements : (es : List Element) → map element_pieces (map unplaced_element
 same_elements [] = refl
 same_elements (e ∷ es) = ap (λ ps. element_pieces e ∷ ps) (same_elements es)
 
-same_line : (part : PartKind) (s : Statement) → line_pieces part (unplaced s) ≡ line_pieces part s
-same_line part (statements.Rule r) = ap (λ ps. ps ++ spelled (codes ".") ++ LineFeed ∷ []) (same_clause r.head r.body)
-same_line part (statements.Const file at name value) = refl
-same_line part (statements.Show signature) = refl
-same_line part (statements.Defined name arity) = refl
-same_line part (statements.Part file at next) = refl
-same_line part (statements.Preference p) = ap (λ ps. spelled (codes "#preference") ++ in_parentheses (spelled p.name ++ spaced_behind (codes ",") ++ kind_pieces p.kind) ++ in_braces (semicolons ps) ++ spelled (codes ".") ++ LineFeed ∷ []) (same_elements p.elements)
-same_line part (statements.Optimize file at name) = refl
+same_line : (s : Statement) → line_pieces (unplaced s) ≡ line_pieces s
+same_line (statements.Rule r) = ap (λ ps. ps ++ spelled (codes ".") ++ LineFeed ∷ []) (same_clause r.head r.body)
+same_line (statements.Const file at name value) = refl
+same_line (statements.Show signature) = refl
+same_line (statements.Defined name arity) = refl
+same_line (statements.Part file at next) = refl
+same_line (statements.Preference p) = ap (λ ps. spelled (codes "#preference") ++ in_parentheses (spelled p.name ++ spaced_behind (codes ",") ++ kind_pieces p.kind) ++ in_braces (semicolons ps) ++ spelled (codes ".") ++ LineFeed ∷ []) (same_elements p.elements)
+same_line (statements.Optimize file at name) = refl
 
-same_behind : (part : PartKind) (s : Statement) → part_behind part (unplaced s) ≡ part_behind part s
-same_behind part (statements.Rule r) = refl
-same_behind part (statements.Const file at name value) = refl
-same_behind part (statements.Show signature) = refl
-same_behind part (statements.Defined name arity) = refl
-same_behind part (statements.Part file at next) = refl
-same_behind part (statements.Preference p) = refl
-same_behind part (statements.Optimize file at name) = refl
-
-same_lines : (part : PartKind) (ss : List Statement) → lines part (map unplaced ss) ≡ lines part ss
-same_lines part [] = refl
-same_lines part (s ∷ ss) = ap (λ ps. ps ++ lines (part_behind part (unplaced s)) (map unplaced ss)) (same_line part s) ∙ (ap (λ b. line_pieces part s ++ lines b (map unplaced ss)) (same_behind part s) ∙ ap (λ ps. line_pieces part s ++ ps) (same_lines (part_behind part s) ss))
+same_lines : (ss : List Statement) → flat_map line_pieces (map unplaced ss) ≡ flat_map line_pieces ss
+same_lines [] = refl
+same_lines (s ∷ ss) = ap (λ ps. ps ++ flat_map line_pieces (map unplaced ss)) (same_line s) ∙ ap (λ ps. line_pieces s ++ ps) (same_lines ss)
 
 pub alike_texts : (p q : Program) → map unplaced p.statements ≡ map unplaced q.statements → canonical_text p ≡ canonical_text q
-alike_texts p q e = ap text_of (sym (same_lines parts.Base p.statements) ∙ (ap (lines parts.Base) e ∙ same_lines parts.Base q.statements))
+alike_texts p q e = ap text_of (sym (same_lines p.statements) ∙ (ap (flat_map line_pieces) e ∙ same_lines q.statements))

@@ -1,5 +1,5 @@
 -- What holds of the value that each rule makes of the tokens of a text: it reads back.
-use Rattle.std.proofs.Common.{◌≡◌, ℕ, Bool, List, ◌∷◌, Option, None}
+use Rattle.std.proofs.Common.{◌≡◌, ℕ, Bool, true, List, ◌∷◌, Option, None}
 use Rattle.grammar.proofs.Interpret.{Reads}
 use Rattle.ap_syntax.specs.declared.terms.Atom.{Atom}
 use Rattle.ap_syntax.specs.declared.terms.Literal.{Literal}
@@ -34,7 +34,8 @@ use Rattle.canonical_law.proofs.Formulas.{GoodFormula}
 use Rattle.canonical_law.proofs.Elements.{GoodElement, GoodRanked, GoodTarget}
 use Rattle.canonical_law.proofs.TypeNames.{GoodKind}
 use Rattle.canonical_law.proofs.Statements.{GoodConstant, GoodStatement}
-use Rattle.canonical_law.proofs.Texts.{GoodProgram, is_type}
+use Rattle.ap_parse.specs.Openings.{is_of_type}
+use Rattle.canonical_law.proofs.Texts.{GoodProgram}
 use Rattle.canonical_law.proofs.Fine.{Fine, fine_grammar}
 
 -- a term that reads back, with whatever it may be read as
@@ -58,29 +59,29 @@ pub record SaysFormula (v : Value) : Type 0 where
   pub is : v ≡ formula first tree
   pub good : GoodFormula tree
 
-pub record SaysStatement (of_type : Bool) (v : Value) : Type 0 where
+pub record SaysStatement (whole of_type : Bool) (v : Value) : Type 0 where
   pub tree : Statement
   pub is : v ≡ statement tree
-  pub good : GoodStatement of_type tree
+  pub good : GoodStatement whole of_type tree
 
 -- statements that may stand behind any part
-pub record SaysProgram (v : Value) : Type 0 where
+pub record SaysProgram (whole : Bool) (v : Value) : Type 0 where
   pub trees : List Statement
   pub is : v ≡ program trees
-  pub good : (part : PartKind) → GoodProgram part trees
+  pub good : (part : PartKind) → GoodProgram whole part trees
 
 abbrev pub Says : Name → Value → Type 0
-Says (Name.Text whole of_type) v = (ss : List Statement) × (v ≡ program ss) × ((part : PartKind) → is_type part ≡ of_type → GoodProgram part ss)
-Says (Name.BaseSection whole) v = SaysProgram v
-Says (Name.TypeSection whole) v = SaysProgram v
+Says (Name.Text whole of_type) v = (ss : List Statement) × (v ≡ program ss) × ((part : PartKind) → is_of_type part ≡ of_type → GoodProgram whole part ss)
+Says (Name.BaseSection whole) v = SaysProgram whole v
+Says (Name.TypeSection whole) v = SaysProgram whole v
 Says Name.BaseOpening v = (file : ℕ) × (at : ℕ) × (v ≡ statement (statements.Part file at parts.Base))
 Says Name.TypeOpening v = (file : ℕ) × (at : ℕ) × (k : List ℕ) × (v ≡ statement (statements.Part file at (parts.Kind k))) × GoodKind k
-Says (Name.Statement whole of_type) v = SaysStatement of_type v
+Says (Name.Statement whole of_type) v = SaysStatement whole of_type v
 Says (Name.One of_type) v = Unit {0}
-Says Name.Const v = (of_type : Bool) → SaysStatement of_type v
+Says Name.Const v = (whole of_type : Bool) → SaysStatement whole of_type v
 Says Name.Constant v = (first : Lexeme) × (x : Term) × (v ≡ term first None x) × GoodConstant x
-Says Name.Show v = (of_type : Bool) → SaysStatement of_type v
-Says Name.Defined v = (of_type : Bool) → SaysStatement of_type v
+Says Name.Show v = (whole of_type : Bool) → SaysStatement whole of_type v
+Says Name.Defined v = (whole of_type : Bool) → SaysStatement whole of_type v
 Says (Name.Rule of_type) v = (r : Rule) × (v ≡ statement (statements.Rule r)) × GoodRule of_type r
 Says Name.Head v = (first : Lexeme) × (h : HeadForm) × (v ≡ head first h) × GoodHead h
 Says Name.LeftGuard v = (first : Lexeme) × (g : Guard) × (v ≡ left first g) × GoodTerm g.term
@@ -103,8 +104,8 @@ Says Name.Sum v = SaysTerm v
 Says Name.Product v = SaysTerm v
 Says Name.Unary v = SaysTerm v
 Says Name.Primary v = SaysTerm v
-Says Name.Preference v = (of_type : Bool) → SaysStatement of_type v
-Says Name.Optimize v = (of_type : Bool) → SaysStatement of_type v
+Says Name.Preference v = (of_type : Bool) → SaysStatement true of_type v
+Says Name.Optimize v = (of_type : Bool) → SaysStatement true of_type v
 Says Name.Kind v = (k : List ℕ) × (v ≡ Value.kind k) × GoodKind k
 Says Name.Element v = (e : Element) × (v ≡ Value.element e) × GoodElement e
 Says Name.Given v = (r : Ranked) × (v ≡ Value.given r) × GoodRanked r

@@ -141,15 +141,24 @@ pub data GoodPart : PartKind → Type 0 where
   in_base : GoodPart parts.Base
   in_type : {k : List ℕ} → GoodKind k → GoodPart (parts.Kind k)
 
--- statements other than `#program`, of a type's part or not
-pub data GoodStatement : Bool → Statement → Type 0 where
-  rule : {of_type : Bool} {r : Rule} → GoodRule of_type r → GoodStatement of_type (statements.Rule r)
-  const : {of_type : Bool} {file at : ℕ} {w : List ℕ} {x : Term} → GoodName w → GoodConstant x → GoodStatement of_type (statements.Const file at w x)
-  show_none : {of_type : Bool} → GoodStatement of_type (statements.Show None)
-  show : {of_type : Bool} {w : List ℕ} {n : ℕ} → GoodName w → GoodNumber n → GoodStatement of_type (statements.Show (Some (w, n)))
-  defined : {of_type : Bool} {w : List ℕ} {n : ℕ} → GoodName w → GoodNumber n → GoodStatement of_type (statements.Defined w n)
-  preference : {of_type : Bool} {file at : ℕ} {w k : List ℕ} {es : List Element} → GoodName w → GoodKind k → Each GoodElement es → GoodStatement of_type (statements.Preference (record { file = file; at = at; name = w; kind = k; elements = es }))
-  optimize : {of_type : Bool} {file at : ℕ} {w : List ℕ} → GoodName w → GoodStatement of_type (statements.Optimize file at w)
+-- statements other than `#program`, with preference statements among them or without, of a type's part or not
+pub data GoodStatement : Bool → Bool → Statement → Type 0 where
+  rule : {whole of_type : Bool} {r : Rule} → GoodRule of_type r → GoodStatement whole of_type (statements.Rule r)
+  const : {whole of_type : Bool} {file at : ℕ} {w : List ℕ} {x : Term} → GoodName w → GoodConstant x → GoodStatement whole of_type (statements.Const file at w x)
+  show_none : {whole of_type : Bool} → GoodStatement whole of_type (statements.Show None)
+  show : {whole of_type : Bool} {w : List ℕ} {n : ℕ} → GoodName w → GoodNumber n → GoodStatement whole of_type (statements.Show (Some (w, n)))
+  defined : {whole of_type : Bool} {w : List ℕ} {n : ℕ} → GoodName w → GoodNumber n → GoodStatement whole of_type (statements.Defined w n)
+  preference : {of_type : Bool} {file at : ℕ} {w k : List ℕ} {es : List Element} → GoodName w → GoodKind k → Each GoodElement es
+      → GoodStatement true of_type (statements.Preference (record { file = file; at = at; name = w; kind = k; elements = es }))
+  optimize : {of_type : Bool} {file at : ℕ} {w : List ℕ} → GoodName w → GoodStatement true of_type (statements.Optimize file at w)
+
+-- what stands without preference statements stands with them
+pub good_whole : {of_type : Bool} {s : Statement} → GoodStatement false of_type s → GoodStatement true of_type s
+good_whole (GoodStatement.rule h) = GoodStatement.rule h
+good_whole (GoodStatement.const h c) = GoodStatement.const h c
+good_whole GoodStatement.show_none = GoodStatement.show_none
+good_whole (GoodStatement.show h n) = GoodStatement.show h n
+good_whole (GoodStatement.defined h n) = GoodStatement.defined h n
 
 -- an element is read up to its place
 abbrev AlikeElement : Element → Element → Type 0
@@ -167,8 +176,9 @@ same_elements Alike.none = refl
 same_elements (Alike.more {xs = xs} {ys = ys} e a) = rw (e, same_elements a) refl
 
 -- from a statement of the smaller grammar
-smaller : {of_type : Bool} {s : Statement} {xs ys : List Lexeme} → IsRead (Name.Statement false of_type) s xs ys → IsRead (Name.Statement true of_type) s xs ys
-smaller p = record { read = p.read; derives = Derives.call (Derives.left p.derives); same = p.same }
+smaller : (whole : Bool) {of_type : Bool} {s : Statement} {xs ys : List Lexeme} → IsRead (Name.Statement false of_type) s xs ys → IsRead (Name.Statement whole of_type) s xs ys
+smaller false p = p
+smaller true p = record { read = p.read; derives = Derives.call (Derives.left p.derives); same = p.same }
 
 as_const : {of_type : Bool} {s : Statement} {xs ys : List Lexeme} → Derives grammar (Call Name.Const) xs ys (statement s ∷ []) → Derives grammar (Call (Name.Statement false of_type)) xs ys (statement s ∷ [])
 as_const d = Derives.call (Derives.right (Derives.left d))
@@ -274,17 +284,17 @@ preference_read {w = w} {k = k} {es = es} {xs = xs} {ys = ys} h c gs s =
       same = ap (λ fs. statements.Preference (record { file = 0; at = 0; name = w; kind = k; elements = fs })) (same_elements b.same);
     }
 
-pub statement_read : {of_type : Bool} {s : Statement} {xs ys : List Lexeme} → GoodStatement of_type s → Spells (statement_pieces s) xs ys → IsRead (Name.Statement true of_type) s xs ys
-statement_read (GoodStatement.rule h) s = let p = rule_spelled h s in record { read = statements.Rule p.read; derives = Derives.call (Derives.left (Derives.call (Derives.left p.derives))); same = ap statements.Rule p.same }
-statement_read (GoodStatement.const h c) s = smaller (const_read h c s)
-statement_read GoodStatement.show_none s = smaller (show_none_read s)
-statement_read (GoodStatement.show h n) s = smaller (show_read h n s)
-statement_read (GoodStatement.defined h n) s = smaller (defined_read h n s)
+pub statement_read : {whole of_type : Bool} {s : Statement} {xs ys : List Lexeme} → GoodStatement whole of_type s → Spells (statement_pieces s) xs ys → IsRead (Name.Statement whole of_type) s xs ys
+statement_read {whole = whole} (GoodStatement.rule h) s = let p = rule_spelled h s in smaller whole (record { read = statements.Rule p.read; derives = Derives.call (Derives.left p.derives); same = ap statements.Rule p.same })
+statement_read {whole = whole} (GoodStatement.const h c) s = smaller whole (const_read h c s)
+statement_read {whole = whole} GoodStatement.show_none s = smaller whole (show_none_read s)
+statement_read {whole = whole} (GoodStatement.show h n) s = smaller whole (show_read h n s)
+statement_read {whole = whole} (GoodStatement.defined h n) s = smaller whole (defined_read h n s)
 statement_read (GoodStatement.preference h c gs) s = preference_read h c gs s
 statement_read (GoodStatement.optimize h) s = optimize_read h s
 
 -- a statement stands on a line
-pub statement_clear : {of_type : Bool} {s : Statement} (rest : List ℕ) → GoodStatement of_type s → Clear (statement_pieces s) (10 ∷ rest)
+pub statement_clear : {whole of_type : Bool} {s : Statement} (rest : List ℕ) → GoodStatement whole of_type s → Clear (statement_pieces s) (10 ∷ rest)
 statement_clear rest (GoodStatement.rule h) = rule_clear rest h
 statement_clear rest (GoodStatement.const {w = w} {x = x} h c) =
     clear_append (spaced_behind (codes "#const") ++ spelled w ++ spaced (codes "=") ++ term_pieces x) (spelled (codes ".")) (10 ∷ rest)

@@ -1,5 +1,5 @@
 -- Programs without their places.
-use Rattle.std.specs.Prelude.{List, [], ◌∷◌, map, if◌then◌else◌}
+use Rattle.std.specs.Prelude.{List, map}
 use Rattle.ap_syntax.specs.declared.rules.BodyItem.{BodyItem}
 use Rattle.ap_syntax.specs.declared.rules.BodyItem.TheVariants as items
 use Rattle.ap_syntax.specs.declared.rules.Rule.{Rule}

@@ -1,8 +1,9 @@
-// Texts with the place of their fault, or none.
+// Texts with the place of their fault, or none; texts with the canonical text of what they are read as.
 ghost use Rattle.std.specs.Prelude.{◌≤◌, length};
 
 use crate::parse_bytes;
 use ap_lexemes::ParseFault;
+use ap_syntax::print_program;
 use std::alloc::Global;
 use std::test::Fail;
 
@@ -133,6 +134,115 @@ fn places_of_faults(rt: HostRuntime) -> Result<(), Fail> {
     }
     for text in TEXTS {
         assert_eq!(rt; fault_of(rt.alloc(), text)?, None, "{text}");
+    }
+    Ok(())
+}
+
+// Texts of each construct, with the canonical text of what they are read as.
+const PRINTED: [(&str, &str); 30] = [
+    ("p(X):-q(X),not r(X).", "p(X) :- q(X), not r(X).\n"),
+    ("a. b:-a;c. % d.", "a.\nb :- a, c.\n"),
+    (":-a.", ":- a.\n"),
+    ("{}.", "{}.\n"),
+    ("{a:}.", "{a}.\n"),
+    (
+        "1{a;p(X):q(X),not r}2:-b.",
+        "1 <= {a; p(X) : q(X), not r} <= 2 :- b.\n",
+    ),
+    ("X<{a}!=(1).", "X < {a} != 1.\n"),
+    ("a:-b:c,d;e.", "a :- b : c, d; e.\n"),
+    ("a:-not b:;X=1:c.", "a :- not b : ; X = 1 : c.\n"),
+    (
+        "a:-X=1,X==2,X!=3,X<4,X<=5,X>6,X>=7.",
+        "a :- X = 1, X = 2, X != 3, X < 4, X <= 5, X > 6, X >= 7.\n",
+    ),
+    ("a:-#count{},b.", "a :- #count{}, b.\n"),
+    (
+        "a:-not 2<#count{X,Y:p(X,Y),not q;1:}=Z.",
+        "a :- not 2 < #count{X, Y : p(X, Y), not q; 1} = Z.\n",
+    ),
+    (
+        "a:-1#sum{X:p(X)}>2;not#sum{3}4.",
+        "a :- 1 <= #sum{X : p(X)} > 2, not #sum{3} <= 4.\n",
+    ),
+    ("p(1+2-3*4/5\\6).", "p(1 + 2 - 3 * 4 / 5 \\ 6).\n"),
+    (
+        "p((1+2)*3,1-(2-3),(1-2)-3,2*(3*4)).",
+        "p((1 + 2) * 3, 1 - (2 - 3), 1 - 2 - 3, 2 * (3 * 4)).\n",
+    ),
+    (
+        "p(-1,-(-X),-(1+2),(-a)*b).",
+        "p(-1, -(-X), -(1 + 2), -a * b).\n",
+    ),
+    ("p(1..2+3,(1..2)..3,((4))).", "p(1..2 + 3, (1..2)..3, 4).\n"),
+    (
+        "p((),(1,),(1,2),((a,),)).",
+        "p((), (1, ), (1, 2), ((a, ), )).\n",
+    ),
+    (
+        "p(_,Xy,f(g,h(1)),base,preference).",
+        "p(_, Xy, f(g, h(1)), base, preference).\n",
+    ),
+    (
+        "p(\"\",\"a b\",\"\\\"\\\\\\n\",\"ä\").",
+        "p(\"\", \"a b\", \"\\\"\\\\\\n\", \"ä\").\n",
+    ),
+    (
+        "#const n=-1. #const s=\"t\".#const c=b.",
+        "#const n = -1.\n#const s = \"t\".\n#const c = b.\n",
+    ),
+    (
+        "#show. #show p/0.#defined q / 2.",
+        "#show.\n#show p/0.\n#defined q/2.\n",
+    ),
+    ("#program base. a. #program base.", "a.\n"),
+    (
+        "#program preference(t(u)).a.#program preference(t).#program base.b.",
+        "#program preference(t(u)).\na.\n#program preference(t).\n#program base.\nb.\n",
+    ),
+    (
+        "#preference(p,t){}. #optimize( p ).",
+        "#preference(p, t){}.\n#optimize(p).\n",
+    ),
+    (
+        "#preference(p,less( w )){a;b(1)}.",
+        "#preference(p, less(w)){a; b(1)}.\n",
+    ),
+    (
+        "#preference(p,t){1,X+2::a>>b>>**q}.",
+        "#preference(p, t){1, X + 2 :: a >> b >> **q}.\n",
+    ),
+    (
+        "#preference(p,t){a||2::**q:e,not f,X<1}.",
+        "#preference(p, t){a || 2 :: **q : e, not f, X < 1}.\n",
+    ),
+    (
+        "#preference(p,t){a&b|not c&(d|e)|(f|g)}.",
+        "#preference(p, t){a & b | not c & (d | e) | (f | g)}.\n",
+    ),
+    (
+        "#preference(p,t){(a&b)&c;not((a));not(not a);((a&b)):c}.",
+        "#preference(p, t){(a & b) & c; not a; not (not a); a & b : c}.\n",
+    ),
+];
+
+// The canonical text of what a text is read as, and nothing where it is at fault.
+fn printed(alloc: Global, text: &str) -> Result<String, Fail> {
+    let mut out = String::new(alloc);
+    if text.len() > 16_777_216 {
+        return Ok(out);
+    }
+    if let Ok(program) = parse_bytes(alloc, text.as_bytes(), 1) {
+        print_program(&program, &mut out)?;
+    }
+    Ok(out)
+}
+
+#[test]
+fn prints_what_it_reads(rt: HostRuntime) -> Result<(), Fail> {
+    for (text, canonical) in PRINTED {
+        assert_eq!(rt; printed(rt.alloc(), text)?.as_str(), canonical, "{text}");
+        assert_eq!(rt; printed(rt.alloc(), canonical)?.as_str(), canonical);
     }
     Ok(())
 }
