@@ -12,8 +12,8 @@ use Rattle.std.proofs.lemmas.Option.{slice_get-get_or}
 use Rattle.definite.specs.declared.Rule.{Rule}
 use Rattle.definite.specs.declared.Derived.{Derived}
 use Rattle.definite.specs.declared.search.Waits.{Waits}
-use Rattle.sets.proofs.SetLemmas.{none_marked}
-use Rattle.sets.specs.Sets.{marked}
+use Rattle.definite.proofs.MarkLemmas.{none_marked}
+use Rattle.definite.specs.Rules.{marked}
 use Rattle.definite.specs.Rules.{obeys, IsRuleOf, IsDerived}
 use Rattle.definite.specs.Searches.{IsSearch, waiting_for, IsTaken, IsSettled, AreSettled, IsDrained, Step}
 use Rattle.definite.proofs.Orders.{derivation_none, derived_in}

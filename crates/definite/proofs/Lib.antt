@@ -1,3 +1,4 @@
+pub mod MarkLemmas
 pub mod Orders
 pub mod Steps
 pub mod Drains

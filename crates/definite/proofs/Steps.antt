@@ -12,8 +12,8 @@ use Rattle.std.proofs.lemmas.Option.{slice_get-get_or}
 use Rattle.definite.specs.declared.Rule.{Rule}
 use Rattle.definite.specs.declared.Derived.{Derived}
 use Rattle.definite.specs.declared.search.Waits.{Waits}
-use Rattle.sets.proofs.SetLemmas.{still_marked, list_all-subset}
-use Rattle.sets.specs.Sets.{marked}
+use Rattle.definite.proofs.MarkLemmas.{still_marked, list_all-subset}
+use Rattle.definite.specs.Rules.{marked}
 use Rattle.definite.specs.Rules.{Follows, IsRuleOf}
 use Rattle.definite.specs.Searches.{IsSearch, waiting_for, met_by, IsAdded, IsWaiter, IsSettled, Step}
 use Rattle.definite.proofs.Orders.{derivation_push}

@@ -1,10 +1,16 @@
 -- Rules without negation, and the least set that is closed under them. A set of atoms is given by its test.
-use Rattle.std.specs.Prelude.{◌≡◌, ◌≢◌, ℕ, ◌<◌, Bool, not, ◌||◌, List, length, take, slice_index_or, All, Contains, IsTrue, ◌↔◌}
+use Rattle.std.specs.Prelude.{◌≡◌, ◌≢◌, ℕ, ◌<◌, Bool, false, not, ◌||◌, List, length, take, slice_index_or, All, Contains, IsTrue, ◌↔◌}
 use Rattle.std.specs.List.{list_all, Any, AllPairs}
-pub use Rattle.sets.specs.Sets.{marked}
-use Rattle.sets.specs.Sets.{IsSubset}
 use Rattle.definite.specs.declared.Rule.{Rule}
 use Rattle.definite.specs.declared.Derived.{Derived}
+
+-- the set of the numbers whose places in a list are marked
+abbrev pub marked : List Bool → ℕ → Bool
+marked marks n = slice_index_or marks n false
+
+-- each number of y is one of z
+abbrev pub IsWithin : (ℕ → Bool) → (ℕ → Bool) → Type 0
+IsWithin y z = (n : ℕ) → IsTrue (y n) → IsTrue (z n)
 
 -- z has the heads of the rule, or not its body
 abbrev pub obeys : (ℕ → Bool) → Rule → Bool
@@ -16,7 +22,7 @@ IsClosed rules z = IsTrue (list_all (obeys z) rules)
 -- y is closed, and in each closed set
 pub record IsLeast (rules : List Rule) (y : ℕ → Bool) : Type 0 where
   pub closed : IsClosed rules y
-  pub least : (z : ℕ → Bool) → IsClosed rules z → IsSubset y z
+  pub least : (z : ℕ → Bool) → IsClosed rules z → IsWithin y z
 
 -- an atom follows at once from these: it is a head of a rule whose body has only these
 abbrev pub Follows : List Rule → List ℕ → ℕ → Type 0

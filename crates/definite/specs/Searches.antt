@@ -5,7 +5,7 @@ use Rattle.definite.specs.declared.Rule.{Rule}
 use Rattle.definite.specs.declared.Derived.{Derived}
 use Rattle.definite.specs.declared.search.Waits.{Waits}
 use Rattle.definite.specs.Rules.{IsDerivation, IsRuleOf}
-use Rattle.sets.specs.Sets.{marked}
+use Rattle.definite.specs.Rules.{marked}
 
 -- the rules that wait for an atom
 abbrev pub waiting_for : Waits → ℕ → List ℕ

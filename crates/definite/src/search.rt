@@ -3,7 +3,7 @@
 ghost use Rattle.std.specs.Prelude.{◌≡◌, ℕ, List, ◌<◌, [], length, take, slice_get, slice_index, Some, All, Contains, IsTrue, IsFalse, OnOk, IfOk, IfSome, IfNone, replicate};
 ghost use Rattle.std.specs.List.{list_all};
 ghost use Rattle.definite.specs.Rules.{IsDerived, IsRuleOf};
-ghost use Rattle.sets.specs.Sets.{marked};
+ghost use Rattle.definite.specs.Rules.{marked};
 ghost use Rattle.definite.specs.Searches.{IsSearch, IsAdded, waiting_for, IsWaiter, IsTaken, IsSettled, AreSettled, Step};
 ghost use Rattle.definite.specs.declared.Rule.{Rule as RuleSpec};
 ghost use Rattle.definite.specs.declared.search.Waits.{Waits as WaitsSpec};

@@ -1,5 +1,5 @@
 -- Sets. A set is given by its test: a function that tells of each thing whether it is in the set.
-use Rattle.std.specs.Prelude.{ℕ, Bool, false, List, slice_index_or, IsTrue}
+use Rattle.std.specs.Prelude.{Bool, false, List, IsTrue}
 use Rattle.std.specs.List.{list_any}
 
 -- the set without members
@@ -12,7 +12,3 @@ IsSubset {X} y z = (x : X) → IsTrue (y x) → IsTrue (z x)
 -- the set of a list's members, where `is` tells whether a member is the thing that is asked about
 abbrev pub has : {X Y : Type 0} → (Y → X → Bool) → List Y → X → Bool
 has is members x = list_any (λ member. is member x) members
-
--- the set of the numbers whose places in a list are marked
-abbrev pub marked : List Bool → ℕ → Bool
-marked marks n = slice_index_or marks n false

@@ -1,8 +1,8 @@
 use Rattle.std.proofs.Common.{◌<◌, ℕ, List, length, get_or, sym, ap, ◌∙◌, subst, length-set, true}
 use Rattle.std.specs.Prelude.{Contains}
 use Rattle.std.proofs.lemmas.List.Elements.{All-contains, Contains-get_or}
-use Rattle.sets.specs.Sets.{marked}
-use Rattle.sets.proofs.SetLemmas.{list_all-subset}
+use Rattle.definite.specs.Rules.{marked}
+use Rattle.definite.proofs.MarkLemmas.{list_all-subset}
 use Rattle.definite.proofs.Steps.{step_then, step_added, added_marked, heads_more, rule_follows}
 use Rattle.definite.proofs.search.add_heads.Goals as goal
 

@@ -1,7 +1,7 @@
 use Rattle.std.proofs.Common.{◌≡◌, ℕ, List, length, take}
 use Rattle.std.specs.Prelude.{IsTrue, Contains}
 use Rattle.std.specs.List.{list_all}
-use Rattle.sets.specs.Sets.{marked}
+use Rattle.definite.specs.Rules.{marked}
 use Rattle.definite.specs.Searches.{IsSearch, Step}
 use Rattle.definite.specs.declared.Rule.{Rule}
 use Rattle.definite.specs.declared.search.Waits.{Waits}

@@ -1,7 +1,7 @@
 use Rattle.std.proofs.Common.{◌<◌, ℕ, List, length, get_or, ap, ◌∙◌, subst, arith}
 use Rattle.std.specs.Prelude.{Contains}
 use Rattle.std.proofs.lemmas.List.Elements.{Contains-get_or}
-use Rattle.sets.proofs.SetLemmas.{marked_within}
+use Rattle.definite.proofs.MarkLemmas.{marked_within}
 use Rattle.definite.proofs.Drains.{taken_search, taken_settled, taken_drained, drained_derived}
 use Rattle.definite.proofs.search.drain.Goals as goal
 

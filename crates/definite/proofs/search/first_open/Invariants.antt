@@ -1,7 +1,7 @@
 use Rattle.std.proofs.Common.{length, ◌-◌, take}
 use Rattle.std.specs.Prelude.{IsTrue}
 use Rattle.std.specs.List.{list_all}
-use Rattle.sets.specs.Sets.{marked}
+use Rattle.definite.specs.Rules.{marked}
 use Rattle.definite.proofs.search.first_open.Given as goal
 
 abbrev pub invariant-loop-place : goal.invariant-loop-place

@@ -5,7 +5,7 @@ use Rattle.std.proofs.lemmas.Result.{on_ok_weaker}
 use Rattle.std.proofs.lemmas.Option.{get_or_from_slice_get, slice_get_read}
 use Rattle.std.proofs.lemmas.List.Elements.{Contains-push}
 use Rattle.definite.specs.declared.Rule.{Rule}
-use Rattle.sets.specs.Sets.{marked}
+use Rattle.definite.specs.Rules.{marked}
 use Rattle.definite.specs.Searches.{waiting_for}
 use Rattle.definite.proofs.Steps.{step_then, step_wait, open_in_range}
 use Rattle.definite.proofs.search.settle.Goals as goal
