@@ -15,6 +15,7 @@ pub mod Unique
 pub mod Pairs
 pub mod One
 pub mod InRange
+pub mod Shown
 pub mod Settings
 pub mod Occurrences
 pub mod Example

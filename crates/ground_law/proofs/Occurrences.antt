@@ -10,11 +10,11 @@ use Rattle.rule_form.specs.Readings.{term_step, read_term, read_terms, terms_fro
 use Rattle.rule_form.specs.Trees as trees
 
 -- the names of occurrences, and of those that are arguments
-abbrev put_name : Option (List ℕ) → List (List ℕ) → List (List ℕ)
+abbrev pub put_name : Option (List ℕ) → List (List ℕ) → List (List ℕ)
 put_name None names = names
 put_name (Some name) names = name ∷ names
 
-abbrev put_if : Bool → Option (List ℕ) → List (List ℕ) → List (List ℕ)
+abbrev pub put_if : Bool → Option (List ℕ) → List (List ℕ) → List (List ℕ)
 put_if true o names = put_name o names
 put_if false o names = names
 
@@ -26,7 +26,7 @@ abbrev pub argument_names : List Occurrence → List (List ℕ)
 argument_names [] = []
 argument_names (o ∷ os) = put_if o.is_argument o.name (argument_names os)
 
-names_append : (xs ys : List Occurrence) → names_of (xs ++ ys) ≡ names_of xs ++ names_of ys
+pub names_append : (xs ys : List Occurrence) → names_of (xs ++ ys) ≡ names_of xs ++ names_of ys
 names_append [] ys = refl
 names_append (o ∷ xs) ys = put o.name (names_append xs ys)
   where
@@ -65,7 +65,7 @@ Read = (t : Term) × IsRead t
 abbrev parts_of : List Read → List Term
 parts_of ps = map (λ e. e.0) ps
 
-both_same : (a b c d : List (List ℕ)) → a ≡ c → b ≡ d → a ++ b ≡ c ++ d
+pub both_same : (a b c d : List (List ℕ)) → a ≡ c → b ≡ d → a ++ b ≡ c ++ d
 both_same a b c d e f = ap (λ x. x ++ b) e ∙ ap (λ y. c ++ y) f
 
 joined_names : (ps : List Read) → names_of (joined (map occurrences (parts_of ps))) ≡ variables_of (terms_from (map read_term (parts_of ps)))

@@ -55,6 +55,7 @@ left_guard None v = None
 left_guard (Some guard) None = None
 left_guard (Some guard) (Some v) = Some (guard_of (turned_rel guard.rel) (λ n. compares guard.rel v (integer n)) v)
 
+-- the same for the guard on the right
 abbrev pub right_guard : Option Guard → Option Value → Option GroupGuard
 right_guard None v = None
 right_guard (Some guard) None = None

@@ -14,9 +14,11 @@ pub record Extras : Type 0 where
   pub guards : List GuardUse
   pub fixed : List Bool
 
+-- nothing
 abbrev pub no_extras : Extras
 no_extras = record { guards = []; fixed = [] }
 
+-- the ones and the others
 abbrev pub joined : Extras → Extras → Extras
 joined e f = record { guards = e.guards ++ f.guards; fixed = e.fixed ++ f.fixed }
 

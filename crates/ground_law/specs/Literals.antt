@@ -17,9 +17,11 @@ abbrev pub literal_place : ℤ → ℕ
 literal_place (pos k) = k * 2
 literal_place (negsuc k) = suc (suc k * 2)
 
+-- the order of literals
 abbrev pub literal_cmp : ℤ → ℤ → Ordering
 literal_cmp c d = nat_cmp (literal_place c) (literal_place d)
 
+-- lists go member by member, and a proper prefix stands first
 abbrev pub literals_cmp : List ℤ → List ℤ → Ordering
 literals_cmp = slice_cmp literal_cmp
 

@@ -26,9 +26,11 @@ use Rattle.sets.specs.Lists.{numbered}
 abbrev pub instance_key : Instance → List Value
 instance_key i = integer (pos i.place) ∷ i.outer
 
+-- the order of instances
 abbrev pub instance_cmp : Instance → Instance → Ordering
 instance_cmp i j = slice_cmp value_cmp (instance_key i) (instance_key j)
 
+-- a choice with a guard has a group of its own
 abbrev pub choice_groups : trees.Head → ℕ
 choice_groups (trees.One atom) = 0
 choice_groups (trees.Choice None elements None) = 0
@@ -36,40 +38,49 @@ choice_groups (trees.Choice (Some left) elements right) = 1
 choice_groups (trees.Choice None elements (Some right)) = 1
 choice_groups trees.Nothing = 0
 
+-- the number of the groups of an instance
 abbrev pub groups_count : Instance → ℕ
 groups_count i = choice_groups i.rule.head + length i.aggregates
 
+-- each instance with the number of its first group, where the first has number k
 abbrev pub placed_from : ℕ → List Instance → List (Instance × ℕ)
 placed_from k [] = []
 placed_from k (i ∷ found) = (i, k) ∷ placed_from (k + groups_count i) found
 
+-- the number of the groups of all
 abbrev pub groups_of : List Instance → ℕ
 groups_of [] = 0
 groups_of (i ∷ found) = groups_count i + groups_of found
 
 -- ---- the order of bodies: literals over atoms, then the literal that is always true or never, then those over guards
 
+-- the key stands if this is so
 abbrev pub put_if : Bool → List ℕ → List (List ℕ) → List (List ℕ)
 put_if true key keys = key ∷ keys
 put_if false key keys = keys
 
+-- the place of a literal over a guard, behind n atoms and the literal that is always true
 abbrev pub guard_key : ℕ → GuardUse → List ℕ
 guard_key n literal = (n + 2) * 2 ∷ literal.group ∷ literal.guard ∷ (if literal.yes then 0 else 1) ∷ []
 
+-- the places of the literals of a body
 abbrev pub body_keys : ℕ → Body → List (List ℕ)
 body_keys n body = map (λ c. literal_place c ∷ []) body.lits
     ++ put_if body.always ((n + 1) * 2 ∷ []) (put_if body.never (suc ((n + 1) * 2) ∷ []) (map (guard_key n) body.guards))
 
+-- the order of bodies
 abbrev pub body_cmp : ℕ → Body → Body → Ordering
 body_cmp n b c = slice_cmp (slice_cmp nat_cmp) (body_keys n b) (body_keys n c)
 
 -- ---- the order of rules: by the kind of the head, its atom and the body
 
+-- the kind of the head, and its atom
 abbrev pub head_key : Head → List ℕ
 head_key (One a) = 0 ∷ a.0 ∷ []
 head_key (Choice a) = 1 ∷ a.0 ∷ []
 head_key Nothing = 2 ∷ 0 ∷ []
 
+-- the order of rules
 abbrev pub rule_cmp : GroundRule → GroundRule → Ordering
 rule_cmp r s = slice_cmp nat_cmp (head_key r.head ++ r.body.0 ∷ []) (head_key s.head ++ s.body.0 ∷ [])
 

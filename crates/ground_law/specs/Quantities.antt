@@ -28,9 +28,11 @@ pub record Pair : Type 0 where
   pub tuple : Values
   pub condition : List ℤ
 
+-- there is a guard
 abbrev pub IsGuarded : Option Guard → Option Guard → Type 0
 IsGuarded left right = ((g : Guard) × (left ≡ Some g)) ⊎ ((g : Guard) × (right ≡ Some g))
 
+-- the pair is one of the group of a choice
 abbrev pub IsChoicePair : Setting → List Value → Instance → Head → Pair → Type 0
 IsChoicePair setting atoms i (One atom) p = ⊥
 IsChoicePair setting atoms i (Choice left elements right) p = IsGuarded left right × (p.group ≡ None)
@@ -39,6 +41,7 @@ IsChoicePair setting atoms i (Choice left elements right) p = IsGuarded left rig
     × AreGroundLiterals atoms (Contains ps) (Contains ns) p.condition)
 IsChoicePair setting atoms i Nothing p = ⊥
 
+-- the pair is one of the group of an aggregate
 abbrev pub IsAggregatePair : Setting → List Value → Instance → Pair → Type 0
 IsAggregatePair setting atoms i p = (j : ℕ) × (u : GuardedAggregate) × (p.group ≡ Some j)
     × (slice_get i.aggregates j ≡ Some u) × ((ps ns : List Value)

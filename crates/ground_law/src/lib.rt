@@ -5,6 +5,8 @@
 #![tactic(auto)]
 
 ghost use Rattle.std.specs.Prelude.{◌≡◌, ◌↔◌, ℕ, Bool, List, map, All, IsTrue};
+ghost use Rattle.ap_pieces.specs.Bound.{IsAllBound};
+ghost use Rattle.ap_pieces.specs.Pieces.{rule_source};
 ghost use Rattle.ap_syntax.specs.declared.rules.Rule.{Rule};
 ghost use Rattle.ap_term.specs.Table.{IsIdOf, HasDistinctValues, value_at};
 ghost use Rattle.ap_term.specs.Value.{Value};
@@ -20,6 +22,8 @@ ghost use Rattle.ground_law.specs.Settings.{setting_of, is_among, TellsDefinite,
 ghost use Rattle.pred_graph.specs.Components.{IsOrderOf};
 ghost use Rattle.pred_graph.specs.declared.pred.Pred.{Pred};
 ghost use Rattle.rule_form.specs.Predicates.{predicate_of};
+ghost use Rattle.rule_form.specs.Arguments.{IsShown};
+ghost use Rattle.rule_form.specs.Readings.{read_rule};
 ghost use Rattle.rule_form.specs.AnswerSets.{IsAnswerSet};
 ghost use Rattle.rule_form.specs.Assigned.{IsAnswerSetBy};
 ghost use Rattle.rule_form.specs.Counts.{MoreThan};
@@ -73,4 +77,10 @@ pub fn setting_is_static()
         IsOrderOf rules number → TellsDefinite rules base definite → AreConditionsDefinite rules definite →
         AreInputsOpen definite inputs →
         AreStatic (setting_of rules number definite certain inputs) (λ a. IsTrue (is_among definite (predicate_of a))) }
+{}
+
+/// Where all variables of a rule are bound, each global variable shows its value in an instance: so an instance is given by
+/// the values of its terms.
+pub fn bound_variables_are_shown()
+    ensures { (rule : Rule) → IsAllBound (rule_source rule) → IsShown (read_rule rule) }
 {}

@@ -40,19 +40,22 @@ HeadHas globals x y s Nothing a = ⊥
 abbrev pub RuleDerives : AtomSet → AtomSet → Rule → Value → Type 0
 RuleDerives x y rule a = (s : Substitution) × HeadHas (global_variables rule) x y s rule.head a × BodyTrue x y s rule
 
+-- one of the rules does
 abbrev pub Derives : List Rule → AtomSet → AtomSet → Value → Type 0
 Derives rules x y a = (rule : Rule) × Contains rules rule × RuleDerives x y rule a
 
--- the number of the atoms of the choice that are in x
+-- these are the atoms of the choice that are in x, each once
 abbrev pub IsChosen : List (List ℕ) → AtomSet → Substitution → Head → List Value → Type 0
 IsChosen globals x s head atoms =
     AllPairs (λ a b. a ≢ b) atoms × ((a : Value) → Contains atoms a ↔ HeadHas globals x x s head a)
 
+-- the number n meets each value of the guard on the left
 abbrev pub LeftAdmits : Substitution → ℕ → Option Guard → Type 0
 LeftAdmits s n None = Unit {0}
 LeftAdmits s n (Some guard) =
     (v : Value) → IsValue s guard.term v → IsOfRange v → IsTrue (compares guard.rel v (integer (pos n)))
 
+-- the number n meets each value of the guard on the right
 abbrev pub RightAdmits : Substitution → ℕ → Option Guard → Type 0
 RightAdmits s n None = Unit {0}
 RightAdmits s n (Some guard) =
@@ -67,6 +70,7 @@ HeadPermits globals x s (Choice left elements right) =
     × RightAdmits s (length atoms) right
 HeadPermits globals x s Nothing = ⊥
 
+-- x meets the constraints and the guards of choices
 abbrev pub Permits : List Rule → AtomSet → Type 0
 Permits rules x = (rule : Rule) (s : Substitution) → Contains rules rule → BodyTrue x x s rule
     → HeadPermits (global_variables rule) x s rule.head

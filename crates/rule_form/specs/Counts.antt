@@ -21,5 +21,6 @@ pub record InstanceKey : Type 0 where
 abbrev pub HasInstance : (Instance → Type 0) → InstanceKey → Type 0
 HasInstance P key = (i : Instance) × (i.place ≡ key.place) × (i.outer ≡ key.outer) × P i
 
+-- a relevant instance has this number and these values
 abbrev pub IsRelevantKey : Setting → InstanceKey → Type 0
 IsRelevantKey setting key = HasInstance (λ i. IsInstance setting.rules i × IsRelevant setting i) key

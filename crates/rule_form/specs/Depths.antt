@@ -14,6 +14,7 @@ use Rattle.rule_form.specs.Trees.{Term, Variable, Anything, Fixed, Compound, Ope
 use Rattle.rule_form.specs.Truth.{Holds, AggregateHolds}
 use Rattle.rule_form.specs.Values.{Substitution, IsValue}
 
+-- the name is one of these
 abbrev pub has_name : List (List ℕ) → List ℕ → Bool
 has_name names name = list_any (bytes_eq name) names
 
@@ -40,6 +41,7 @@ side_binds names (Compound name parts) other = []
 side_binds names (Operation op left right) other = []
 side_binds names (Interval low high) other = []
 
+-- the relation is `=`
 abbrev pub is_equal : Rel → Bool
 is_equal Eq = true
 is_equal Ne = false
@@ -48,6 +50,7 @@ is_equal Le = false
 is_equal Gt = false
 is_equal Ge = false
 
+-- the variable that gets the number of an aggregate by its guard
 abbrev pub guard_binds : List (List ℕ) → Option Guard → List (List ℕ)
 guard_binds names None = []
 guard_binds names (Some guard) = if is_equal guard.rel then side_binds names guard.term (Fixed (integer (pos 0))) else []
@@ -59,12 +62,14 @@ literal_binds names (Not atom) = []
 literal_binds names (Compare left rel right) =
     if is_equal rel then side_binds names left right ++ side_binds names right left else []
 
+-- the same of a part of a body
 abbrev pub item_binds : (List (List ℕ) → Aggregate → Bool) → List (List ℕ) → Item → List (List ℕ)
 item_binds assigned names (Plain l) = literal_binds names l
 item_binds assigned names (Each l c) = []
 item_binds assigned names (Agg g) =
     if assigned names g then guard_binds names g.left ++ guard_binds names g.right else []
 
+-- something is bound
 abbrev pub binds_any : List (List ℕ) → Bool
 binds_any [] = false
 binds_any (name ∷ names) = true
@@ -76,6 +81,7 @@ first_binder assigned names (item ∷ items) = if binds_any (item_binds assigned
 
 module _ (setting : Setting) (assigned : List (List ℕ) → Aggregate
     → Bool) (globals : List (List ℕ)) (s : Substitution) where
+  -- what gives a variable its value holds
   abbrev pub Binder : Item → Type 0
   Binder (Plain l) = Holds (λ b. Unit {0}) (λ b. Unit {0}) s l
   Binder (Each l c) = Unit {0}
@@ -87,6 +93,7 @@ module _ (setting : Setting) (assigned : List (List ℕ) → Aggregate
   GetValues (suc n) names items = IfSome (first_binder assigned names items) (λ item. Binder item
       × GetValues n (item_binds assigned names item ++ names) items)
 
+-- the arguments of the positive atoms
 abbrev pub positive_arguments : List Item → List (List ℕ)
 positive_arguments [] = []
 positive_arguments (Plain (Pos atom) ∷ items) = arguments_of atom.terms ++ positive_arguments items
@@ -105,24 +112,29 @@ pub record HasValues (setting : Setting) (assigned : List (List ℕ) → Aggrega
 
 -- ---- terms
 
+-- the terms as a list
 abbrev pub term_list : Terms → List Term
 term_list nothing = []
 term_list (more t ts) = t ∷ term_list ts
 
+-- the terms of a literal
 abbrev pub literal_terms : Literal → List Term
 literal_terms (Pos atom) = term_list atom.terms
 literal_terms (Not atom) = term_list atom.terms
 literal_terms (Compare left rel right) = left ∷ right ∷ []
 
+-- the term of a guard
 abbrev pub guard_terms : Option Guard → List Term
 guard_terms None = []
 guard_terms (Some guard) = guard.term ∷ []
 
+-- the terms of a part of a body outside braces and conditional literals
 abbrev pub item_terms : Item → List Term
 item_terms (Plain l) = literal_terms l
 item_terms (Each l c) = []
 item_terms (Agg g) = guard_terms g.left ++ guard_terms g.right
 
+-- the terms of a head outside braces
 abbrev pub head_terms : Head → List Term
 head_terms (One atom) = term_list atom.terms
 head_terms (Choice left elements right) = guard_terms left ++ guard_terms right
@@ -133,19 +145,23 @@ pub record Part : Type 0 where
   pub terms : List Term
   pub condition : List Literal
 
+-- the part with these terms and those of its condition
 abbrev pub part_of : List Term → List Literal → Part
 part_of terms condition = record { terms = terms ++ flat_map literal_terms condition; condition = condition }
 
+-- the parts of an aggregate, and a conditional literal
 abbrev pub item_parts : Item → List Part
 item_parts (Plain l) = []
 item_parts (Each l c) = part_of (literal_terms l) c ∷ []
 item_parts (Agg g) = map (λ (e : Element). part_of (term_list e.terms) e.condition) g.elements
 
+-- the parts of a choice
 abbrev pub head_parts : Head → List Part
 head_parts (One atom) = []
 head_parts (Choice left elements right) = map (λ (e : Choosable). part_of (term_list e.atom.terms) e.condition) elements
 head_parts Nothing = []
 
+-- the arguments of an atom
 abbrev pub atom_arguments : Value → List Value
 atom_arguments (integer n) = []
 atom_arguments (constant name) = []
@@ -155,9 +171,11 @@ atom_arguments (compound name vs) = value_list vs
 -- ---- the values whose depth counts
 
 module _ (setting : Setting) (assigned : List (List ℕ) → Aggregate → Bool) where
+  -- an argument of a possible atom
   abbrev pub OfAtom : Value → Type 0
   OfAtom v = (a : Value) × IsPossible setting a × Contains (atom_arguments a) v
 
+  -- a value of a term of a rule
   abbrev pub OfRule : Value → Type 0
   OfRule v = (rule : Rule) × (s : Substitution) × (t : Term) × Contains setting.rules rule
       × HasValues setting assigned (global_variables rule) [] s rule.body
@@ -170,5 +188,6 @@ module _ (setting : Setting) (assigned : List (List ℕ) → Aggregate → Bool)
       × Contains (head_parts rule.head ++ flat_map item_parts rule.body) part × Agrees (global_variables rule) s u
       × HasValues setting assigned (global_variables rule) (global_variables rule) u (map (λ l. Plain l) part.condition) × Contains part.terms t × IsValue u t v
 
+  -- such a value is deeper than d
   abbrev pub IsTooDeep : ℕ → Type 0
   IsTooDeep d = (v : Value) × (OfAtom v ⊎ (OfRule v ⊎ OfPart v)) × (d < depth v)

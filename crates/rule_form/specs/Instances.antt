@@ -27,10 +27,12 @@ pub record Instance : Type 0 where
   pub negative : List Value
   pub aggregates : List GuardedAggregate
 
+-- the values as a list
 abbrev pub value_list : Values → List Value
 value_list none = []
 value_list (also v vs) = v ∷ value_list vs
 
+-- the value, if there is one
 abbrev pub if_any : Option Value → List Value
 if_any None = []
 if_any (Some v) = v ∷ []
@@ -114,6 +116,7 @@ left_holds None v n = true
 left_holds (Some guard) None n = true
 left_holds (Some guard) (Some v) n = compares guard.rel v (integer n)
 
+-- the same for the guard on the right
 abbrev pub right_holds : Option Guard → Option Value → ℤ → Bool
 right_holds None v n = true
 right_holds (Some guard) None n = true

@@ -4,14 +4,17 @@ use Rattle.std.specs.List.{list_all}
 use Rattle.std.specs.Str.{bytes_eq}
 use Rattle.rule_form.specs.Trees.{Literal, Pos, Not, Compare, Element, Item, Plain, Each, Agg, Head, One, Choice, Nothing, Rule}
 
+-- the name of the atom of a literal
 abbrev pub literal_names : Literal → List (List ℕ)
 literal_names (Pos atom) = atom.name ∷ []
 literal_names (Not atom) = atom.name ∷ []
 literal_names (Compare left rel right) = []
 
+-- the names in a condition
 abbrev pub condition_names : List Literal → List (List ℕ)
 condition_names ls = flat_map literal_names ls
 
+-- the names in a part of a body
 abbrev pub item_names : Item → List (List ℕ)
 item_names (Plain literal) = literal_names literal
 item_names (Each literal condition) = literal_names literal ++ condition_names condition
@@ -23,6 +26,7 @@ head_rises level (One atom) names = list_all (λ name. nat_lt (level name) (leve
 head_rises level (Choice left elements right) names = false
 head_rises level Nothing names = false
 
+-- each rule is so
 abbrev pub is_layered : (List ℕ → ℕ) → List Rule → Bool
 is_layered level rules = list_all (λ (rule : Rule). head_rises level rule.head (flat_map item_names rule.body)) rules
 

@@ -7,6 +7,7 @@ use Rattle.rule_form.specs.Trees.{Terms, nothing, more, Atom, Aggregate, Item, C
 use Rattle.rule_form.specs.Truth.{HasGuardValue, Holds, ItemHolds, AggregateHolds}
 use Rattle.rule_form.specs.Values.{Substitution, IsAtom}
 
+-- P where the test is true, and else Q
 abbrev pub If : Bool → Type 0 → Type 0 → Type 0
 If true P Q = P
 If false P Q = Q
@@ -27,6 +28,7 @@ level setting (constant name) = setting.component name 0
 level setting (string bytes) = 0
 level setting (compound name vs) = setting.component name (arity vs)
 
+-- how many terms there are
 abbrev pub terms_count : Terms → ℕ
 terms_count nothing = 0
 terms_count (more t ts) = suc (terms_count ts)
@@ -43,24 +45,27 @@ IsHeadLevel setting (Choice left elements right) n =
 IsHeadLevel setting Nothing n = ⊥
 
 module _ (setting : Setting) (possible certain : Value → Type 0) (a : Value) where
+  -- b is of a lower component than a
   abbrev pub Lower : Value → Type 0
   Lower b = level setting b < level setting a
 
-  -- certain in a lower component
+  -- b is certain in a lower component
   abbrev pub Sure : Value → Type 0
   Sure b = Lower b × certain b
 
+  -- b is not certain in a lower component
   abbrev pub Unsure : Value → Type 0
   Unsure b = Sure b → ⊥
 
-  -- what counts as true for the possible atoms
+  -- a positive literal over b counts as true for the possible atoms
   abbrev pub May : Value → Type 0
   May b = Lower b → possible b
 
+  -- a negative literal over b does
   abbrev pub MayLack : Value → Type 0
   MayLack b = Lower b → certain b → ⊥
 
-  -- what counts as true for the certain atoms, besides Sure
+  -- a negative literal over b counts as true for the certain atoms; a positive one does where b is Sure
   abbrev pub MustLack : Value → Type 0
   MustLack b = Lower b × (possible b → ⊥)
 
@@ -69,9 +74,11 @@ module _ (setting : Setting) (possible certain : Value → Type 0) (a : Value) w
   abbrev pub Judges : Type 0 → List (List ℕ) → Substitution → Aggregate → Type 0
   Judges P globals s g = If (setting.evaluated g) (AggregateHolds globals Sure Unsure s g) P
 
+  -- the part counts as true for the possible atoms
   abbrev pub MayItem : List (List ℕ) → Substitution → Item → Type 0
   MayItem globals s item = ItemHolds May MayLack Sure Unsure (Judges (Unit {0}) globals s) globals s item
 
+  -- the part counts as true for the certain atoms
   abbrev pub MustItem : List (List ℕ) → Substitution → Item → Type 0
   MustItem globals s item = ItemHolds Sure MustLack Sure Unsure (Judges ⊥ globals s) globals s item
 
@@ -89,10 +96,12 @@ module _ (setting : Setting) (possible certain : Value → Type 0) (a : Value) w
   MustHead s (Choice left elements right) = ⊥
   MustHead s Nothing = ⊥
 
+  -- an instance of the rule makes a possible
   abbrev pub MakesPossible : Rule → Type 0
   MakesPossible rule = (s : Substitution) × MayHead (global_variables rule) s rule.head
       × All (MayItem (global_variables rule) s) rule.body
 
+  -- an instance of the rule makes a certain
   abbrev pub MakesCertain : Rule → Type 0
   MakesCertain rule = (s : Substitution) × MustHead s rule.head × All (MustItem (global_variables rule) s) rule.body
 
@@ -104,14 +113,17 @@ abbrev mutual
       ⊎ (Contains setting.inputs a ⊎ ((rule : Rule) × Contains setting.rules rule
       × MakesPossible setting (λ b. PossibleBelow setting n b) (λ b. CertainBelow setting n b) a rule))
 
+  -- the certain ones of these components
   pub CertainBelow : Setting → ℕ → Value → Type 0
   CertainBelow setting zero a = ⊥
   CertainBelow setting (suc n) a = Contains setting.certain a
       ⊎ ((rule : Rule) × Contains setting.rules rule
       × MakesCertain setting (λ b. PossibleBelow setting n b) (λ b. CertainBelow setting n b) a rule)
 
+-- a is a possible atom
 abbrev pub IsPossible : Setting → Value → Type 0
 IsPossible setting a = PossibleBelow setting (suc (level setting a)) a
 
+-- a is a certain atom
 abbrev pub IsCertain : Setting → Value → Type 0
 IsCertain setting a = CertainBelow setting (suc (level setting a)) a

@@ -6,6 +6,7 @@ use Rattle.ap_term.specs.Value.{Value, integer, constant, string, compound, Valu
 use Rattle.rule_form.specs.Depths.{is_bound}
 use Rattle.rule_form.specs.Trees.{Term, Variable, Anything, Fixed, Compound, Operation, Interval, Terms, nothing, more, Compare, Item, Plain}
 
+-- the integers among the values
 abbrev pub integers : List Value → List ℤ
 integers [] = []
 integers (integer n ∷ vs) = n ∷ integers vs
@@ -13,14 +14,17 @@ integers (constant name ∷ vs) = integers vs
 integers (string bytes ∷ vs) = integers vs
 integers (compound name ws ∷ vs) = integers vs
 
+-- i and the n integers behind it
 abbrev pub integers_from : ℤ → ℕ → List ℤ
 integers_from i zero = i ∷ []
 integers_from i (suc n) = i ∷ integers_from (i +ℤ pos 1) n
 
+-- how far an integer is from zero, or one less
 abbrev pub magnitude : ℤ → ℕ
 magnitude (pos n) = n
 magnitude (negsuc n) = n
 
+-- the integer, if there is one
 abbrev pub if_some : Option ℤ → List Value
 if_some None = []
 if_some (Some n) = integer n ∷ []
@@ -44,6 +48,7 @@ pub record Equation : Type 0 where
   pub name : List ℕ
   pub from : Term
 
+-- the equation is one of the body, with its variable on either side
 abbrev pub IsEquation : List Item → Equation → Type 0
 IsEquation body step = Contains body (Plain (Compare (Variable step.name) Eq step.from))
     ⊎ Contains body (Plain (Compare step.from Eq (Variable step.name)))
@@ -59,6 +64,7 @@ abbrev pub names_after : List (List ℕ) → List Equation → List (List ℕ)
 names_after names [] = names
 names_after names (step ∷ steps) = names_after (step.name ∷ names) steps
 
+-- the values of these variables, beside the others
 abbrev pub grown : List Value → List Equation → List Value
 grown vs [] = vs
 grown vs (step ∷ steps) = grown (values_in vs step.from ++ vs) steps

@@ -10,6 +10,7 @@ pub record Predicate : Type 0 where
   pub name : List ℕ
   pub arity : ℕ
 
+-- the predicate of an atom with variables
 abbrev pub predicate : Atom → Predicate
 predicate atom = record { name = atom.name; arity = terms_count atom.terms }
 
@@ -20,30 +21,37 @@ predicate_of (constant name) = record { name = name; arity = 0 }
 predicate_of (string bytes) = record { name = []; arity = 0 }
 predicate_of (compound name vs) = record { name = name; arity = arity vs }
 
+-- the predicate of a literal
 abbrev pub literal_predicates : Literal → List Predicate
 literal_predicates (Pos atom) = predicate atom ∷ []
 literal_predicates (Not atom) = predicate atom ∷ []
 literal_predicates (Compare left rel right) = []
 
+-- the predicates of a condition
 abbrev pub condition_predicates : List Literal → List Predicate
 condition_predicates c = flat_map literal_predicates c
 
+-- those of an aggregate
 abbrev pub aggregate_predicates : Aggregate → List Predicate
 aggregate_predicates g = flat_map (λ (e : Element). condition_predicates e.condition) g.elements
 
+-- those of a part of a body
 abbrev pub item_predicates : Item → List Predicate
 item_predicates (Plain l) = literal_predicates l
 item_predicates (Each l c) = literal_predicates l ++ condition_predicates c
 item_predicates (Agg g) = aggregate_predicates g
 
+-- those of a head
 abbrev pub head_predicates : Head → List Predicate
 head_predicates (One atom) = predicate atom ∷ []
 head_predicates (Choice left elements right) = map (λ (e : Choosable). predicate e.atom) elements
 head_predicates Nothing = []
 
+-- the number of the component of a predicate
 abbrev pub component_of : Setting → Predicate → ℕ
 component_of setting p = setting.component p.name p.arity
 
+-- what static conditions give of the predicates of a setting
 pub record IsOrdered (setting : Setting) (definite : Predicate → Bool) : Type 0 where
   -- a definite predicate of a body is lower than the heads
   pub lower : (rule : Rule) → Contains setting.rules rule → (h q : Predicate) → Contains (head_predicates rule.head) h

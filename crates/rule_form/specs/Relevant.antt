@@ -9,6 +9,7 @@ use Rattle.rule_form.specs.Trees.{Term, Aggregate, Atom, Literal, Pos, Not, Comp
 use Rattle.rule_form.specs.Truth.{Holds, compares}
 use Rattle.rule_form.specs.Values.{Substitution, IsValue, IsAtom}
 
+-- b is not certain
 abbrev pub IsUncertain : Setting → Value → Type 0
 IsUncertain setting b = IsCertain setting b → ⊥
 
@@ -22,6 +23,7 @@ abbrev pub IsAsked : Setting → Instance → Value → Type 0
 IsAsked setting i b =
     Contains i.positive b ⊎ ((atom : Atom) × (u : Substitution) × Stands setting i u (Pos atom) × IsAtom u atom b)
 
+-- and the atoms that it bars
 abbrev pub IsBarred : Setting → Instance → Value → Type 0
 IsBarred setting i b =
     Contains i.negative b ⊎ ((atom : Atom) × (u : Substitution) × Stands setting i u (Not atom) × IsAtom u atom b)

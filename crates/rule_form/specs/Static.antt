@@ -12,9 +12,11 @@ IsAtomOf u (Pos atom) b = IsAtom u atom b
 IsAtomOf u (Not atom) b = IsAtom u atom b
 IsAtomOf u (Compare left rel right) b = ⊥
 
+-- b is an atom for which a literal of the condition stands
 abbrev pub InCondition : List Literal → Value → Type 0
 InCondition c b = (l : Literal) × (u : Substitution) × Contains c l × IsAtomOf u l b
 
+-- b is an atom for which a literal of a condition of the aggregate stands
 abbrev pub InAggregate : Aggregate → Value → Type 0
 InAggregate g b = (e : Element) × Contains g.elements e × InCondition e.condition b
 
@@ -25,6 +27,7 @@ IsHeadAtom (Choice left elements right) a =
     (e : Choosable) × (u : Substitution) × Contains elements e × IsAtom u e.atom a
 IsHeadAtom Nothing a = ⊥
 
+-- the head is one atom
 abbrev pub IsOne : Head → Type 0
 IsOne (One atom) = Unit {0}
 IsOne (Choice left elements right) = ⊥
@@ -42,6 +45,7 @@ IsDefiniteItem setting definite n (Each l c) =
     (u : Substitution) (b : Value) → IsAtomOf u l b → definite b × (level setting b < n)
 IsDefiniteItem setting definite n (Agg g) = IsTrue (setting.evaluated g)
 
+-- what static conditions give of one rule
 pub record IsStatic (setting : Setting) (definite : Value → Type 0) (rule : Rule) : Type 0 where
   pub conditions : (l : Literal) (c : List Literal) → Contains rule.body (Each l c) → (b : Value) → InCondition c b
       → IsDefiniteBelow setting definite rule b
@@ -52,6 +56,7 @@ pub record IsStatic (setting : Setting) (definite : Value → Type 0) (rule : Ru
   pub body : (a : Value) → IsHeadAtom rule.head a → definite a
       → All (IsDefiniteItem setting definite (level setting a)) rule.body
 
+-- what they give of all rules, where no input is definite
 pub record AreStatic (setting : Setting) (definite : Value → Type 0) : Type 0 where
   pub rules : (rule : Rule) → Contains setting.rules rule → IsStatic setting definite rule
   pub inputs : (a : Value) → Contains setting.inputs a → definite a → ⊥

@@ -14,6 +14,7 @@ use Rattle.rule_form.specs.Globals.{Agrees, global_variables}
 use Rattle.rule_form.specs.Trees.{Literal, Pos, Not, Compare, Guard, Element, Aggregate, Item, Plain, Each, Agg, Rule}
 use Rattle.rule_form.specs.Values.{Substitution, IsValue, AreValues, IsAtom}
 
+-- a set of atoms, by its test
 abbrev pub AtomSet : Type 0
 AtomSet = Value → Bool
 
@@ -43,18 +44,23 @@ HoldsForAll has lacks s (Not atom) = (a : Value) → IsAtom s atom a → lacks a
 HoldsForAll has lacks s (Compare left rel right) =
     (v w : Value) → IsValue s left v → IsValue s right w → IsTrue (compares rel v w)
 
+-- x has a
 abbrev pub In : AtomSet → Value → Type 0
 In x a = IsTrue (x a)
 
+-- x does not have a
 abbrev pub Out : AtomSet → Value → Type 0
 Out x a = IsFalse (x a)
 
+-- the literal is true, a positive one in y and any other in x
 abbrev pub LiteralTrue : AtomSet → AtomSet → Substitution → Literal → Type 0
 LiteralTrue x y s l = Holds (In y) (Out x) s l
 
+-- the same with all values of its terms
 abbrev pub LiteralTrueForAll : AtomSet → AtomSet → Substitution → Literal → Type 0
 LiteralTrueForAll x y s l = HoldsForAll (In y) (Out x) s l
 
+-- each literal of the condition is true
 abbrev pub ConditionTrue : AtomSet → AtomSet → Substitution → List Literal → Type 0
 ConditionTrue x y s condition = All (LiteralTrue x y s) condition
 
@@ -66,6 +72,7 @@ abbrev pub IsCounted : List (List ℕ) → (Value → Type 0) → (Value → Typ
 IsCounted globals has lacks s elements t = (e : Element) × (u : Substitution) × Contains elements e
     × Agrees globals s u × AreValues u e.terms t × All (Holds has lacks u) e.condition
 
+-- the tuple has a condition that is true in x
 abbrev pub Counts : List (List ℕ) → AtomSet → Substitution → List Element → Values → Type 0
 Counts globals x s elements t = IsCounted globals (In x) (Out x) s elements t
 
@@ -77,10 +84,12 @@ weight (also (constant name) vs) = pos 0
 weight (also (string bytes) vs) = pos 0
 weight (also (compound name ws) vs) = pos 0
 
+-- the sum of what f gives of the members
 abbrev pub total : {X : Type 0} → (X → ℤ) → List X → ℤ
 total f [] = pos 0
 total f (t ∷ ts) = f t +ℤ total f ts
 
+-- what an aggregate computes of its tuples
 abbrev pub computed : Function → List Values → ℤ
 computed Count tuples = total (λ t. pos 1) tuples
 computed Sum tuples = total weight tuples
@@ -111,6 +120,7 @@ LeftHolds s n None b = b ≡ true
 LeftHolds s n (Some guard) b =
     (v : Value) × IsValue s guard.term v × IsOfRange v × (b ≡ compares guard.rel v (integer n))
 
+-- the same for the guard on the right
 abbrev pub RightHolds : Substitution → ℤ → Option Guard → Bool → Type 0
 RightHolds s n None b = b ≡ true
 RightHolds s n (Some guard) b =
@@ -122,6 +132,7 @@ AggregateHolds globals has lacks s g = (n : ℤ) × (l r : Bool)
     × IsAggregateNumber globals has lacks s g.function g.elements n × LeftHolds s n g.left l
     × RightHolds s n g.right r × IsTrue (beq (not g.negated) (l && r))
 
+-- the aggregate is true in x
 abbrev pub AggregateTrue : List (List ℕ) → AtomSet → Substitution → Aggregate → Type 0
 AggregateTrue globals x s g = AggregateHolds globals (In x) (Out x) s g
 
@@ -136,8 +147,10 @@ ItemHolds has lacks held unheld evaluate globals s (Each literal condition) =
     (u : Substitution) → Agrees globals s u → All (Holds held unheld u) condition → HoldsForAll has lacks u literal
 ItemHolds has lacks held unheld evaluate globals s (Agg aggregate) = evaluate aggregate
 
+-- the part is true: positive literals are read in y, and all else in x
 abbrev pub ItemTrue : List (List ℕ) → AtomSet → AtomSet → Substitution → Item → Type 0
 ItemTrue globals x y s item = ItemHolds (In y) (Out x) (In x) (Out x) (AggregateTrue globals x s) globals s item
 
+-- the body of the rule is true
 abbrev pub BodyTrue : AtomSet → AtomSet → Substitution → Rule → Type 0
 BodyTrue x y s rule = All (ItemTrue (global_variables rule) x y s) rule.body
