@@ -14,9 +14,10 @@ use Rattle.theory_form.specs.Kinds.{atom_supports, body_row}
 use Rattle.theory_form.specs.Theories.{TheoryView, kind_of}
 use Rattle.theory_form.specs.Truth.{IsFalseIn}
 use Rattle.loop_nogoods.specs.declared.founding.Founding.{Founding}
-use Rattle.loop_nogoods.specs.declared.founding.Wait.{Wait}
+use Rattle.loop_nogoods.specs.declared.waits.Wait.{Wait}
 use Rattle.loop_nogoods.specs.Bodies.{body_lits, lits_in, support_lits}
-use Rattle.loop_nogoods.specs.Founding.{AreSettled, Awaits, Drains, IsFounding, IsRested, IsSettled, IsSound, IsSubset, IsTended, Misses, Step, Takes, waits}
+use Rattle.loop_nogoods.specs.Founding.{AreSettled, Awaits, Drains, IsFounding, IsRested, IsSettled, IsSound, IsTended, Misses, Step, Takes, waits}
+use Rattle.sets.specs.Sets.{IsSubset}
 use Rattle.loop_nogoods.specs.Marks.{marked}
 use Rattle.loop_nogoods.proofs.MemberLemmas.{nothing_in}
 
@@ -32,28 +33,28 @@ no_body_of v (Some Other) l h = refl
 pub no_body : (t : TheoryView) (v : ℕ) (l : Lit) → Contains (support_lits t v) l → body_lits t v ≡ []
 no_body t v l h = no_body_of v (kind_of t v) l h
 
-pub taken_valid : (s0 s1 : Founding) (v : Var) (list : List Wait) → Takes s0.waiting.items s1.waiting.items v.0 list → s1.atoms ≡ s0.atoms → s1.founded ≡ s0.founded → s0.pending.items ≡ s1.pending.items ++ v ∷ [] → IsFounding s0 → IsFounding s1
+pub taken_valid : (s0 s1 : Founding) (v : Var) (list : List Wait) → Takes s0.waiting s1.waiting v.0 list → s1.atoms ≡ s0.atoms → s1.founded ≡ s0.founded → s0.pending.items ≡ s1.pending.items ++ v ∷ [] → IsFounding s0 → IsFounding s1
 taken_valid s0 s1 v list takes atoms founded pending i = record {
   atoms_places = ap length atoms ∙ (i.atoms_places ∙ ap length (sym founded));
   waiting_places = takes.size ∙ (i.waiting_places ∙ ap length (sym founded));
   heads = λ c e m. subst (λ marks. e.head.0 < length marks) (sym founded) (⊎_elim
-      (λ (is : c ≡ v.0). absurd (nothing_in e (subst (λ xs. Contains xs e) (ap (waits s1.waiting.items) is ∙ takes.here) m)))
+      (λ (is : c ≡ v.0). absurd (nothing_in e (subst (λ xs. Contains xs e) (ap (waits s1.waiting) is ∙ takes.here) m)))
       (λ (ne : c ≡ v.0 → ⊥). i.heads c e (subst (λ xs. Contains xs e) (takes.others c ne) m))
       (cases_eq c v.0));
   queued = λ c m. subst (λ marks. IsTrue (marked marks c.0)) (sym founded) (i.queued c (subst (λ xs. Contains xs c) (sym pending) (Contains-append_left s1.pending.items (v ∷ []) c m)));
   pending = λ c h. ⊎_elim
-      (λ (is : c ≡ v.0). inr (ap (waits s1.waiting.items) is ∙ takes.here))
+      (λ (is : c ≡ v.0). inr (ap (waits s1.waiting) is ∙ takes.here))
       (λ (ne : c ≡ v.0 → ⊥). ⊎_elim
       (λ (p : Contains s0.pending.items (record { 0 = c })). ⊎_elim
       (λ (q : Contains s1.pending.items (record { 0 = c })). inl q)
       (λ (is : v ≡ record { 0 = c }). absurd (ne (sym (ap (λ (x : Var). x.0) is))))
       (Contains-push_cases s1.pending.items v (record { 0 = c }) (subst (λ xs. Contains xs (record { 0 = c })) pending p)))
-      (λ (none : waits s0.waiting.items c ≡ []). inr (takes.others c ne ∙ none))
+      (λ (none : waits s0.waiting c ≡ []). inr (takes.others c ne ∙ none))
       (i.pending c (subst (λ marks. IsTrue (marked marks c)) founded h)))
       (cases_eq c v.0);
 }
 
-pub taken_heads : (s0 : Founding) (table : List (Vec Wait)) (v : ℕ) (list : List Wait) → Takes s0.waiting.items table v list → IsFounding s0 → All (λ (e : Wait). e.head.0 < length s0.founded) list
+pub taken_heads : (s0 : Founding) (table : List (List Wait)) (v : ℕ) (list : List Wait) → Takes s0.waiting table v list → IsFounding s0 → All (λ (e : Wait). e.head.0 < length s0.founded) list
 taken_heads s0 table v list takes i k d lt =
     i.heads v (get_or list k d) (subst (λ xs. Contains xs (get_or list k d)) takes.taken (Contains-get_or list k d lt))
 
@@ -67,7 +68,7 @@ Drains-same t s valid tended = record {
 }
 
 -- one variable is taken out of the list of the pending, and what waited for it is settled
-module _ (t : TheoryView) (s s0 s1 s2 : Founding) (v : Var) (list : List Wait) (takes : Takes s0.waiting.items s1.waiting.items v.0 list) (atoms : s1.atoms ≡ s0.atoms) (founded : s1.founded ≡ s0.founded) (step : Step t s1 s2) (rested : All (λ (e : Wait). IsRested t s2 e.head.0) list) where
+module _ (t : TheoryView) (s s0 s1 s2 : Founding) (v : Var) (list : List Wait) (takes : Takes s0.waiting s1.waiting v.0 list) (atoms : s1.atoms ≡ s0.atoms) (founded : s1.founded ≡ s0.founded) (step : Step t s1 s2) (rested : All (λ (e : Wait). IsRested t s2 e.head.0) list) where
   taken_rested : (head : ℕ) → Awaits s0 v.0 head → IsRested t s2 head
   taken_rested head w =
       let m = subst (λ xs. Contains xs w.0) (sym takes.taken) w.1 in
@@ -94,8 +95,8 @@ module _ (t : TheoryView) (s s0 s1 s2 : Founding) (v : Var) (list : List Wait) (
 
   turn_tended : IsTended t s0 → IsTended t s2
   turn_tended tended x e m = ⊎_elim
-      (λ (old : Contains (waits s1.waiting.items x) e). ⊎_elim
-      (λ (is : x ≡ v.0). absurd (nothing_in e (subst (λ xs. Contains xs e) (ap (waits s1.waiting.items) is ∙ takes.here) old)))
+      (λ (old : Contains (waits s1.waiting x) e). ⊎_elim
+      (λ (is : x ≡ v.0). absurd (nothing_in e (subst (λ xs. Contains xs e) (ap (waits s1.waiting) is ∙ takes.here) old)))
       (λ (ne : x ≡ v.0 → ⊥). ⊎_elim
       (λ (atom : IsTrue (marked s0.atoms x)). inl (subst (λ m'. IsTrue (marked m' x)) (sym same_atoms) atom))
       (λ (r : IsRested t s0 x). inr (turn_rested x r))
@@ -133,7 +134,7 @@ module _ (t : TheoryView) (s s0 s1 s2 : Founding) (v : Var) (list : List Wait) (
   taken_sound w h = record {
     founded = λ x f. h.founded x (subst (λ m. IsTrue (marked m x)) founded f);
     waiting = λ x e m. ⊎_elim
-        (λ (is : x ≡ v.0). absurd (nothing_in e (subst (λ xs. Contains xs e) (ap (waits s1.waiting.items) is ∙ takes.here) m)))
+        (λ (is : x ≡ v.0). absurd (nothing_in e (subst (λ xs. Contains xs e) (ap (waits s1.waiting) is ∙ takes.here) m)))
         (λ (ne : x ≡ v.0 → ⊥). h.waiting x e (subst (λ xs. Contains xs e) (takes.others x ne) m))
         (cases_eq x v.0);
   }
@@ -162,7 +163,7 @@ Drains-pending t s s0 pending same d = record {
     waiting_places = d.valid.waiting_places;
     heads = d.valid.heads;
     queued = λ v m. d.valid.queued v (subst (λ xs. Contains xs v) same m);
-    pending = λ v f. subst (λ xs. Contains xs (record { 0 = v }) ⊎ (waits s0.waiting.items v ≡ [])) (sym same) (d.valid.pending v f);
+    pending = λ v f. subst (λ xs. Contains xs (record { 0 = v }) ⊎ (waits s0.waiting v ≡ [])) (sym same) (d.valid.pending v f);
   };
   tended = d.tended;
   settled = d.settled;

@@ -1,5 +1,5 @@
 -- What is left when nothing is pending is the greatest unfounded set.
-use Rattle.std.proofs.Common.{◌≡◌, ℕ, ◌<◌, ◌≤◌, ◌⊎◌, Bool, not, Option, Some, None, List, [], length, get_or, refl, sym, ap, ◌∙◌, subst, arith, ⊎_elim}
+use Rattle.std.proofs.Common.{◌≡◌, ◌≢◌, ℕ, ◌+◌, ◌<◌, ◌≤◌, false, ◌⊎◌, Bool, not, Option, Some, None, List, [], length, get_or, refl, sym, ap, ◌∙◌, subst, arith, ⊎_elim}
 use Rattle.std.specs.Prelude.{IsTrue, IsFalse, ◌↔◌}
 use Rattle.std.specs.List.{All, Contains}
 use Rattle.std.specs.Option.{option_and_then}
@@ -12,13 +12,14 @@ use Rattle.theory_form.specs.declared.rows.BodyRow.{BodyRow}
 use Rattle.theory_form.specs.declared.rows.VarKind.{VarKind}
 use Rattle.theory_form.specs.declared.rows.VarKind.TheVariants.{Atom, Sum, Body, Search, Other}
 use Rattle.theory_form.specs.Kinds.{atom_block, body_row}
-use Rattle.theory_form.specs.Theories.{TheoryView, body_of, kind_of}
-use Rattle.theory_form.specs.Truth.{IsFalseIn}
+use Rattle.theory_form.specs.Theories.{TheoryView, AreAtoms, body_of, kind_of}
+use Rattle.theory_form.specs.Truth.{IsFalseIn, value_of}
 use Rattle.theory_form.proofs.NumberLemmas.{at_number_within}
 use Rattle.theory_model.specs.Loops.{IsExternal, is_internal, is_positive_in, rests_on}
 use Rattle.loop_nogoods.specs.declared.founding.Founding.{Founding}
 use Rattle.loop_nogoods.specs.Bodies.{body_lits, lits_in, support_lits}
-use Rattle.loop_nogoods.specs.Founding.{AreSettled, Awaits, Drains, IsBegun, IsFinished, IsFit, IsOpenAtom, IsRested, IsSettled, IsSound, IsSubset, IsTended, Keeps, Step, unfounded_in, waits}
+use Rattle.loop_nogoods.specs.Founding.{AreSettled, Awaits, Drains, IsBegun, IsEmptied, IsFinished, IsFit, IsOpenAtom, IsRested, IsSettled, IsSound, IsTended, Keeps, SettlesAll, Step, unfounded_in, waits}
+use Rattle.sets.specs.Sets.{IsSubset}
 use Rattle.loop_nogoods.specs.Marks.{marked}
 use Rattle.loop_nogoods.specs.Unfounded.{IsUnfounded}
 use Rattle.loop_nogoods.proofs.MemberLemmas.{nothing_in}
@@ -40,6 +41,37 @@ body_is_variable t v h = at (kind_of t v) refl
     at : (o : Option VarKind) → kind_of t v ≡ o → v ≤ length t.variables
     at None e = let none : 0 < 0 = subst (λ (k : Option VarKind). 0 < length (lits_in (option_and_then (body_row v) k))) e h in absurd (omega arith)
     at (Some k) e = at_number_within t.variables v k e
+
+-- the empty tables with the open atoms marked
+pub begun_from : (t : TheoryView) (block : ℕ) (a : List (Option Bool)) (empty s : Founding) (vars : List Var) → IsEmptied t empty → AreAtoms t block vars → length s.atoms ≡ length empty.atoms → ((v : Var) → IsTrue (marked s.atoms v.0) ↔ (Contains vars v × (value_of a v.0 ≢ Some false))) → s.founded ≡ empty.founded → s.waiting ≡ empty.waiting → s.pending.items ≡ empty.pending.items → IsBegun t block a s
+begun_from t block a empty s vars e atoms places marks founded waiting pending =
+    let clear : (v : ℕ) → IsFalse (marked s.founded v) = λ v. subst (λ m. IsFalse (marked m v)) (sym founded) (e.founded v) in
+    let nothing : (v : ℕ) → waits s.waiting v ≡ [] = λ v. subst (λ table. waits table v ≡ []) (sym waiting) (e.waiting v) in
+    let size : length s.founded ≡ length t.variables + 1 = ap length founded ∙ e.founded_places in
+    record {
+      atoms_are = λ v. (
+        (λ h. let m = (marks (record { 0 = v })).0 h in ((atoms.members (record { 0 = v })).0 m.0, m.1)),
+        λ h. (marks (record { 0 = v })).1 ((atoms.members (record { 0 = v })).1 h.0, h.1),
+      );
+      places = omega arith;
+      founded = clear;
+      waiting = nothing;
+      valid = record {
+        atoms_places = places ∙ (e.atoms_places ∙ sym size);
+        waiting_places = ap length waiting ∙ (e.waiting_places ∙ sym size);
+        heads = λ v d m. absurd (nothing_in d (subst (λ xs. Contains xs d) (nothing v) m));
+        queued = λ v h. absurd (nothing_in v (subst (λ (xs : List Var). Contains xs v) (pending ∙ e.pending) h));
+        pending = λ v h. absurd (false≢true (sym (clear v) ∙ h));
+      };
+    }
+
+-- the program's atoms have places
+pub atoms_have_places : (t : TheoryView) (block places : ℕ) (vars : List Var) → AreAtoms t block vars → places ≡ length t.variables + 1 → All (λ (v : Var). v.0 < places) vars
+atoms_have_places t block places vars atoms size i d lt =
+    let v : Var = get_or vars i d in
+    let known = atom_is_variable t block v.0 ((atoms.members v).0 (Contains-get_or vars i d lt)) in
+    let high = known.1 in
+    omega arith
 
 module _ (t : TheoryView) (block : ℕ) (a : List (Option Bool)) (s : Founding) (begun : IsBegun t block a s) where
   pub begun_tended : IsTended t s
@@ -67,6 +99,13 @@ module _ (t : TheoryView) (block : ℕ) (a : List (Option Bool)) (s : Founding) 
       let l : Lit = get_or (support_lits t v) k d in
       not_false (u.supports l (v, on, supports_from _ l (Contains-get_or (support_lits t v) k d lt), external)))
 
+  -- a list with the program's atoms has the open ones
+  pub begun_settled : (s1 : Founding) (vars : List Var) → AreAtoms t block vars → SettlesAll t a s s1 vars → AreSettled t a s1
+  begun_settled s1 vars atoms all v on =
+      let open_atom = (begun.atoms_are v).0 (subst (λ m. IsTrue (marked m v)) all.step.atoms_same on) in
+      All-contains (λ (w : Var). IsTrue (marked s1.atoms w.0) → All (IsSettled a s1 w.0) (support_lits t w.0)) vars (record { 0 = v }) all.settled
+      ((atoms.members (record { 0 = v })).1 open_atom.0) on
+
   module _ (s1 s2 : Founding) (step : Step t s s1) (settled : AreSettled t a s1) (sound : (w : ℕ → Bool) → IsSubset w (marked s.atoms) → ((v : ℕ) → IsTrue (marked s.atoms v) → All (Keeps t a w v) (support_lits t v)) → IsSound t w s → IsSound t w s1) (drains : Drains t s1 s2) (empty : s2.pending.items ≡ []) where
     same_atoms : s2.atoms ≡ s.atoms
     same_atoms = drains.atoms_same ∙ step.atoms_same
@@ -81,7 +120,7 @@ module _ (t : TheoryView) (block : ℕ) (a : List (Option Bool)) (s : Founding) 
     nothing_waits : (v head : ℕ) → IsTrue (marked s2.founded v) → Awaits s2 v head → ⊥
     nothing_waits v head f w = ⊎_elim
         (λ (p : Contains s2.pending.items (record { 0 = v })). nothing_in (record { 0 = v }) (subst (λ (xs : List Var). Contains xs (record { 0 = v })) empty p))
-        (λ (none : waits s2.waiting.items v ≡ []). nothing_in w.0 (subst (λ xs. Contains xs w.0) none w.1))
+        (λ (none : waits s2.waiting v ≡ []). nothing_in w.0 (subst (λ xs. Contains xs w.0) none w.1))
         (drains.valid.pending v f)
 
     unfounded_here : (v : ℕ) → IsTrue (marked s2.atoms v) → (IsTrue (marked s2.founded v) → ⊥) → IsTrue (unfounded_in s2 v)

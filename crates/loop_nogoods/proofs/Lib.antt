@@ -1,8 +1,11 @@
 pub mod MemberLemmas
 pub mod SupportLemmas
 pub mod ValidLemmas
+pub mod StampLemmas
 pub mod StepLemmas
+pub mod OpenLemmas
 pub mod SoundLemmas
 pub mod DrainLemmas
 pub mod FinishLemmas
 pub mod ListedLemmas
+pub mod TightLemmas

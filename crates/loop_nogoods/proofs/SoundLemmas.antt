@@ -12,13 +12,14 @@ use Rattle.theory_form.specs.declared.rows.BodyRow.{BodyRow}
 use Rattle.theory_form.specs.Theories.{TheoryView, body_of}
 use Rattle.theory_model.specs.Loops.{is_internal, is_positive_in, rests_on}
 use Rattle.loop_nogoods.specs.declared.founding.Founding.{Founding}
-use Rattle.loop_nogoods.specs.declared.founding.Wait.{Wait}
+use Rattle.loop_nogoods.specs.declared.waits.Wait.{Wait}
 use Rattle.loop_nogoods.specs.Bodies.{body_lits, lits_in}
-use Rattle.loop_nogoods.specs.Founding.{Appends, IsSound, IsSubset, Misses, blocks, waits}
+use Rattle.loop_nogoods.specs.Founding.{Appends, IsSound, Misses, blocks, waits}
+use Rattle.sets.specs.Sets.{IsSubset}
 use Rattle.loop_nogoods.specs.Marks.{marked}
 use Rattle.loop_nogoods.proofs.StepLemmas.{mark_cases}
 
-pub sound_found : (t : TheoryView) (w : ℕ → Bool) (s0 s1 : Founding) (v : Var) → s1.founded ≡ slice_set s0.founded v.0 true → s1.waiting.items ≡ s0.waiting.items → Misses w v.0 (body_lits t v.0) → IsSound t w s0 → IsSound t w s1
+pub sound_found : (t : TheoryView) (w : ℕ → Bool) (s0 s1 : Founding) (v : Var) → s1.founded ≡ slice_set s0.founded v.0 true → s1.waiting ≡ s0.waiting → Misses w v.0 (body_lits t v.0) → IsSound t w s0 → IsSound t w s1
 sound_found t w s0 s1 v founded waiting misses sound = record {
   founded = λ c h. ⊎_elim
       (λ (is : c ≡ v.0). subst (λ n. Misses w n (body_lits t n)) (sym is) misses)
@@ -27,14 +28,14 @@ sound_found t w s0 s1 v founded waiting misses sound = record {
   waiting = λ c e m. sound.waiting c e (subst (λ table. Contains (waits table c) e) waiting m);
 }
 
-pub sound_wait : (t : TheoryView) (w : ℕ → Bool) (s0 s1 : Founding) (x : ℕ) (e : Wait) → Appends s0.waiting.items s1.waiting.items x e → s1.founded ≡ s0.founded → (Misses w x (body_lits t x) → Misses w e.head.0 (take e.place (body_lits t e.head.0))) → IsSound t w s0 → IsSound t w s1
+pub sound_wait : (t : TheoryView) (w : ℕ → Bool) (s0 s1 : Founding) (x : ℕ) (e : Wait) → Appends s0.waiting s1.waiting x e → s1.founded ≡ s0.founded → (Misses w x (body_lits t x) → Misses w e.head.0 (take e.place (body_lits t e.head.0))) → IsSound t w s0 → IsSound t w s1
 sound_wait t w s0 s1 x e more founded misses sound = record {
   founded = λ c h. sound.founded c (subst (λ m. IsTrue (marked m c)) founded h);
   waiting = λ c d m. ⊎_elim
       (λ (is : c ≡ x). ⊎_elim
-      (λ (old : Contains (waits s0.waiting.items x) d) h. sound.waiting x d old (subst (λ n. Misses w n (body_lits t n)) is h))
+      (λ (old : Contains (waits s0.waiting x) d) h. sound.waiting x d old (subst (λ n. Misses w n (body_lits t n)) is h))
       (λ (new : e ≡ d) h. subst (λ (k : Wait). Misses w k.head.0 (take k.place (body_lits t k.head.0))) new (misses (subst (λ n. Misses w n (body_lits t n)) is h)))
-      (Contains-push_cases (waits s0.waiting.items x) e d (subst (λ xs. Contains xs d) (ap (waits s1.waiting.items) is ∙ more.here) m)))
+      (Contains-push_cases (waits s0.waiting x) e d (subst (λ xs. Contains xs d) (ap (waits s1.waiting) is ∙ more.here) m)))
       (λ (ne : c ≡ x → ⊥). sound.waiting c d (subst (λ xs. Contains xs d) (more.others c ne) m))
       (cases_eq c x);
 }

@@ -1,20 +1,21 @@
 -- What each part of the search keeps.
-use Rattle.std.proofs.Common.{◌≡◌, ◌≢◌, ℕ, ◌+◌, ◌<◌, ◌⊎◌, inl, inr, Bool, true, false, cond, List, [], ◌∷◌, ◌++◌, length, get_or, refl, sym, ap, ◌∙◌, subst, arith, slice_set, ⊎_elim, Option}
+use Rattle.std.proofs.Common.{◌≡◌, ◌≢◌, ℕ, ◌+◌, ◌<◌, ◌⊎◌, inl, inr, Bool, true, false, cond, List, [], ◌∷◌, ◌++◌, length, take, get_or, refl, sym, ap, ◌∙◌, subst, arith, slice_set, ⊎_elim, Option}
 use Rattle.std.specs.Prelude.{IsTrue, IsFalse}
 use Rattle.std.specs.List.{All, Contains}
 use Rattle.std.proofs.lemmas.Bool.{cases_eq, false≢true}
 use Rattle.std.proofs.lemmas.List.{get_or-set_same, get_or-set_other, length-append, length-set}
-use Rattle.std.proofs.lemmas.List.Elements.{All-weaker, Contains-append_left, Contains-push, Contains-push_cases}
+use Rattle.std.proofs.lemmas.List.Elements.{All-more, All-nil, All-weaker, Contains-append_left, Contains-push, Contains-push_cases}
 use Rattle.std.proofs.lemmas.List.Sums.{sum_by-set}
 use Rattle.theory_form.specs.declared.literals.Lit.{Lit}
 use Rattle.theory_form.specs.declared.literals.Var.{Var}
 use Rattle.theory_form.specs.Theories.{TheoryView}
 use Rattle.theory_form.specs.Truth.{IsFalseIn}
 use Rattle.loop_nogoods.specs.declared.founding.Founding.{Founding}
-use Rattle.loop_nogoods.specs.declared.founding.Wait.{Wait}
+use Rattle.loop_nogoods.specs.declared.waits.Wait.{Wait}
 use Rattle.loop_nogoods.specs.Bodies.{body_lits, support_lits}
-use Rattle.loop_nogoods.specs.Founding.{Appends, Awaits, IsRested, IsSettled, IsSound, IsSubset, IsTended, Keeps, SettlesTo, Step, mark_count, waits}
-use Rattle.loop_nogoods.specs.Marks.{IsVariable, marked}
+use Rattle.loop_nogoods.specs.Founding.{Appends, Awaits, IsRested, IsSettled, IsSound, IsTended, Keeps, SettlesAll, Step, mark_count, waits}
+use Rattle.sets.specs.Sets.{IsSubset}
+use Rattle.loop_nogoods.specs.Marks.{marked}
 
 pub mark_kept : (m : List Bool) (v c : ℕ) → v < length m → IsTrue (marked m c) → IsTrue (marked (slice_set m v true) c)
 mark_kept m v c lt h = ⊎_elim
@@ -28,7 +29,7 @@ mark_cases m v c h = ⊎_elim
     (λ (ne : c ≡ v → ⊥). inr (sym (get_or-set_other m v c true false ne) ∙ h))
     (cases_eq c v)
 
-pub step_found : (t : TheoryView) (s0 s1 : Founding) (v : Var) → v.0 < length s0.founded → IsFalse (marked s0.founded v.0) → s1.atoms ≡ s0.atoms → s1.founded ≡ slice_set s0.founded v.0 true → s1.waiting.items ≡ s0.waiting.items → s1.pending.items ≡ s0.pending.items ++ v ∷ [] → Step t s0 s1
+pub step_found : (t : TheoryView) (s0 s1 : Founding) (v : Var) → v.0 < length s0.founded → IsFalse (marked s0.founded v.0) → s1.atoms ≡ s0.atoms → s1.founded ≡ slice_set s0.founded v.0 true → s1.waiting ≡ s0.waiting → s1.pending.items ≡ s0.pending.items ++ v ∷ [] → Step t s0 s1
 step_found t s0 s1 v lt off atoms founded waiting pending = record {
   atoms_same = atoms;
   places = places;
@@ -47,7 +48,7 @@ step_found t s0 s1 v lt off atoms founded waiting pending = record {
         (λ (is : c ≡ v.0). inl (subst (λ xs. Contains xs (record { 0 = c })) (sym pending) (subst (λ n. Contains (s0.pending.items ++ v ∷ []) (record { 0 = n })) (sym is) (Contains-push s0.pending.items v))))
         (λ (old : IsTrue (marked s0.founded c)). ⊎_elim
         (λ (p : Contains s0.pending.items (record { 0 = c })). inl (subst (λ xs. Contains xs (record { 0 = c })) (sym pending) (Contains-append_left s0.pending.items (v ∷ []) (record { 0 = c }) p)))
-        (λ (none : waits s0.waiting.items c ≡ []). inr (ap (λ table. waits table c) waiting ∙ none))
+        (λ (none : waits s0.waiting c ≡ []). inr (ap (λ table. waits table c) waiting ∙ none))
         (i.pending c old))
         (mark_cases s0.founded v.0 c (subst (λ m. IsTrue (marked m c)) founded h));
   };
@@ -63,17 +64,17 @@ step_found t s0 s1 v lt off atoms founded waiting pending = record {
     places : length s1.founded ≡ length s0.founded
     places = ap length founded ∙ length-set s0.founded v.0 true
 
-pub awaits_appended : (s0 s1 : Founding) (x : ℕ) (e : Wait) → Appends s0.waiting.items s1.waiting.items x e → Awaits s1 x e.head.0
-awaits_appended s0 s1 x e more = (e, subst (λ xs. Contains xs e) (sym more.here) (Contains-push (waits s0.waiting.items x) e), refl)
+pub awaits_appended : (s0 s1 : Founding) (x : ℕ) (e : Wait) → Appends s0.waiting s1.waiting x e → Awaits s1 x e.head.0
+awaits_appended s0 s1 x e more = (e, subst (λ xs. Contains xs e) (sym more.here) (Contains-push (waits s0.waiting x) e), refl)
 
-pub step_wait : (t : TheoryView) (s0 s1 : Founding) (x : ℕ) (e : Wait) → Appends s0.waiting.items s1.waiting.items x e → e.head.0 < length s0.founded → IsFalse (marked s0.founded x) → s1.atoms ≡ s0.atoms → s1.founded ≡ s0.founded → s1.pending.items ≡ s0.pending.items → IsTrue (marked s1.atoms x) ⊎ IsRested t s1 x → Step t s0 s1
+pub step_wait : (t : TheoryView) (s0 s1 : Founding) (x : ℕ) (e : Wait) → Appends s0.waiting s1.waiting x e → e.head.0 < length s0.founded → IsFalse (marked s0.founded x) → s1.atoms ≡ s0.atoms → s1.founded ≡ s0.founded → s1.pending.items ≡ s0.pending.items → IsTrue (marked s1.atoms x) ⊎ IsRested t s1 x → Step t s0 s1
 step_wait t s0 s1 x e more lt off atoms founded pending tended = record {
   atoms_same = atoms;
   places = ap length founded;
   founded = λ c h. subst (λ m. IsTrue (marked m c)) (sym founded) h;
   kept = λ c d m. ⊎_elim
-      (λ (is : c ≡ x). subst (λ xs. Contains xs d) (sym (ap (waits s1.waiting.items) is ∙ more.here))
-      (Contains-append_left (waits s0.waiting.items x) (e ∷ []) d (subst (λ n. Contains (waits s0.waiting.items n) d) is m)))
+      (λ (is : c ≡ x). subst (λ xs. Contains xs d) (sym (ap (waits s1.waiting) is ∙ more.here))
+      (Contains-append_left (waits s0.waiting x) (e ∷ []) d (subst (λ n. Contains (waits s0.waiting n) d) is m)))
       (λ (ne : c ≡ x → ⊥). subst (λ xs. Contains xs d) (sym (more.others c ne)) m)
       (cases_eq c x);
   added = λ c d m. ⊎_elim
@@ -85,9 +86,9 @@ step_wait t s0 s1 x e more lt off atoms founded pending tended = record {
     waiting_places = more.size ∙ (i.waiting_places ∙ ap length (sym founded));
     heads = λ c d m. subst (λ m'. d.head.0 < length m') (sym founded) (⊎_elim
         (λ (is : c ≡ x). ⊎_elim
-        (λ (old : Contains (waits s0.waiting.items x) d). i.heads x d old)
+        (λ (old : Contains (waits s0.waiting x) d). i.heads x d old)
         (λ (new : e ≡ d). subst (λ (k : Wait). k.head.0 < length s0.founded) new lt)
-        (Contains-push_cases (waits s0.waiting.items x) e d (subst (λ xs. Contains xs d) (ap (waits s1.waiting.items) is ∙ more.here) m)))
+        (Contains-push_cases (waits s0.waiting x) e d (subst (λ xs. Contains xs d) (ap (waits s1.waiting) is ∙ more.here) m)))
         (λ (ne : c ≡ x → ⊥). i.heads c d (subst (λ xs. Contains xs d) (more.others c ne) m))
         (cases_eq c x));
     queued = λ c m. subst (λ marks. IsTrue (marked marks c.0)) (sym founded) (i.queued c (subst (λ xs. Contains xs c) pending m));
@@ -96,24 +97,24 @@ step_wait t s0 s1 x e more lt off atoms founded pending tended = record {
         let ne : c ≢ x = λ is. false≢true (sym off ∙ subst (λ n. IsTrue (marked s0.founded n)) is old) in
         ⊎_elim
         (λ (p : Contains s0.pending.items (record { 0 = c })). inl (subst (λ xs. Contains xs (record { 0 = c })) (sym pending) p))
-        (λ (none : waits s0.waiting.items c ≡ []). inr (more.others c ne ∙ none))
+        (λ (none : waits s0.waiting c ≡ []). inr (more.others c ne ∙ none))
         (i.pending c old);
   };
   size = let more = ap length pending in let same = ap mark_count founded in omega (arith, more, same);
 }
 
 -- what waits more leaves the rested ones
-pub rested_appended : (t : TheoryView) (s0 s1 : Founding) (x : ℕ) (e : Wait) → Appends s0.waiting.items s1.waiting.items x e → s1.atoms ≡ s0.atoms → s1.founded ≡ s0.founded → (v : ℕ) → IsRested t s0 v → IsRested t s1 v
+pub rested_appended : (t : TheoryView) (s0 s1 : Founding) (x : ℕ) (e : Wait) → Appends s0.waiting s1.waiting x e → s1.atoms ≡ s0.atoms → s1.founded ≡ s0.founded → (v : ℕ) → IsRested t s0 v → IsRested t s1 v
 rested_appended t s0 s1 x e more atoms founded v h = ⊎_elim
     (λ (f : IsTrue (marked s0.founded v)). inl (subst (λ m. IsTrue (marked m v)) (sym founded) f))
     (λ (b : (l : Lit) × Contains (body_lits t v) l × IsTrue l.yes × IsTrue (marked s0.atoms l.var.0) × Awaits s0 l.var.0 v).
     inr (b.0, b.1, b.2, subst (λ m. IsTrue (marked m b.0.var.0)) (sym atoms) b.3, (b.4.0, still b.0.var.0 b.4.0 b.4.1, b.4.2)))
     h
   where
-    still : (c : ℕ) (d : Wait) → Contains (waits s0.waiting.items c) d → Contains (waits s1.waiting.items c) d
+    still : (c : ℕ) (d : Wait) → Contains (waits s0.waiting c) d → Contains (waits s1.waiting c) d
     still c d m = ⊎_elim
-        (λ (is : c ≡ x). subst (λ xs. Contains xs d) (sym (ap (waits s1.waiting.items) is ∙ more.here))
-        (Contains-append_left (waits s0.waiting.items x) (e ∷ []) d (subst (λ n. Contains (waits s0.waiting.items n) d) is m)))
+        (λ (is : c ≡ x). subst (λ xs. Contains xs d) (sym (ap (waits s1.waiting) is ∙ more.here))
+        (Contains-append_left (waits s0.waiting x) (e ∷ []) d (subst (λ n. Contains (waits s0.waiting n) d) is m)))
         (λ (ne : c ≡ x → ⊥). subst (λ xs. Contains xs d) (sym (more.others c ne)) m)
         (cases_eq c x)
 
@@ -132,7 +133,7 @@ module _ (t : TheoryView) (s0 s1 : Founding) (step : Step t s0 s1) where
 
   pub tended_kept : IsTended t s0 → IsTended t s1
   tended_kept h v e m = ⊎_elim
-      (λ (old : Contains (waits s0.waiting.items v) e). ⊎_elim
+      (λ (old : Contains (waits s0.waiting v) e). ⊎_elim
       (λ (atom : IsTrue (marked s0.atoms v)). inl (subst (λ m'. IsTrue (marked m' v)) (sym step.atoms_same) atom))
       (λ (r : IsRested t s0 v). inr (rested_kept v r))
       (h v e old))
@@ -170,8 +171,8 @@ Step-then t s0 s1 s2 p q = record {
   founded = λ v h. q.founded v (p.founded v h);
   kept = λ v e m. q.kept v e (p.kept v e m);
   added = λ v e m. ⊎_elim
-      (λ (mid : Contains (waits s1.waiting.items v) e). ⊎_elim
-      (λ (old : Contains (waits s0.waiting.items v) e). inl old)
+      (λ (mid : Contains (waits s1.waiting v) e). ⊎_elim
+      (λ (old : Contains (waits s0.waiting v) e). inl old)
       (λ (new : IsTrue (marked s1.atoms v) ⊎ IsRested t s1 v). inr (⊎_elim
       (λ (atom : IsTrue (marked s1.atoms v)). inl (subst (λ m'. IsTrue (marked m' v)) (sym q.atoms_same) atom))
       (λ (r : IsRested t s1 v). inr (rested_kept t s1 s2 q v r))
@@ -185,35 +186,29 @@ Step-then t s0 s1 s2 p q = record {
 
 -- ---- the atoms one after another
 
-module _ (t : TheoryView) (a : List (Option Bool)) (old s : Founding) (number : ℕ) (before : SettlesTo t a old s number) where
-  pub settles_to_skip : IsFalse (marked s.atoms (number + 1)) → SettlesTo t a old s (number + 1)
-  settles_to_skip none = record {
+-- what is settled of an atom
+abbrev pub HasSettled : TheoryView → List (Option Bool) → Founding → Var → Type 0
+HasSettled t a s v = IsTrue (marked s.atoms v.0) → All (IsSettled a s v.0) (support_lits t v.0)
+
+module _ (t : TheoryView) (a : List (Option Bool)) (old s : Founding) (vars : List Var) (i : ℕ) (d : Var) (lt : i < length vars) (before : SettlesAll t a old s (take i vars)) where
+  pub settles_skip : IsFalse (marked s.atoms (get_or vars i d).0) → SettlesAll t a old s (take (i + 1) vars)
+  settles_skip none = record {
     step = before.step;
-    settled = λ v le atom. ⊎_elim
-        (λ (is : v ≡ number + 1). absurd (false≢true (sym none ∙ subst (λ n. IsTrue (marked s.atoms n)) is atom)))
-        (λ (ne : v ≡ number + 1 → ⊥). let apart : v ≢ number + 1 = ne in before.settled v (omega arith) atom)
-        (cases_eq v (number + 1));
+    settled = All-more (HasSettled t a s) vars i d lt before.settled (λ atom. absurd (false≢true (sym none ∙ atom)));
     sound = before.sound;
   }
 
-  pub settles_to_more : (new : Founding) → Step t s new → IsTrue (marked s.atoms (number + 1)) → All (IsSettled a new (number + 1)) (support_lits t (number + 1)) → ((w : ℕ → Bool) → IsSubset w (marked s.atoms) → All (Keeps t a w (number + 1)) (support_lits t (number + 1)) → IsSound t w s → IsSound t w new) → SettlesTo t a old new (number + 1)
-  settles_to_more new step atom here sound = record {
+  pub settles_more : (new : Founding) → Step t s new → IsTrue (marked s.atoms (get_or vars i d).0) → All (IsSettled a new (get_or vars i d).0) (support_lits t (get_or vars i d).0) → ((w : ℕ → Bool) → IsSubset w (marked s.atoms) → All (Keeps t a w (get_or vars i d).0) (support_lits t (get_or vars i d).0) → IsSound t w s → IsSound t w new) → SettlesAll t a old new (take (i + 1) vars)
+  settles_more new step atom here sound = record {
     step = Step-then t old s new before.step step;
-    settled = λ v le at. ⊎_elim
-        (λ (is : v ≡ number + 1). subst (λ n. All (IsSettled a new n) (support_lits t n)) (sym is) here)
-        (λ (ne : v ≡ number + 1 → ⊥).
-        let apart : v ≢ number + 1 = ne in
-        all_settled_kept t s new step a v (support_lits t v) (before.settled v (omega arith) (subst (λ m. IsTrue (marked m v)) step.atoms_same at)))
-        (cases_eq v (number + 1));
+    settled = All-more (HasSettled t a new) vars i d lt
+        (All-weaker (HasSettled t a s) (HasSettled t a new) (λ v h at. all_settled_kept t s new step a v.0 (support_lits t v.0) (h (subst (λ m. IsTrue (marked m v.0)) step.atoms_same at))) (take i vars) before.settled)
+        (λ at. here);
     sound = λ w part keeps h.
         sound w (subst (λ m. IsSubset w (marked m)) (sym before.step.atoms_same) part)
-        (keeps (number + 1) (subst (λ m. IsTrue (marked m (number + 1))) before.step.atoms_same atom))
+        (keeps (get_or vars i d).0 (subst (λ m. IsTrue (marked m (get_or vars i d).0)) before.step.atoms_same atom))
         (before.sound w part keeps h);
   }
 
-pub settles_none : (t : TheoryView) (a : List (Option Bool)) (s : Founding) → ((v : ℕ) → IsTrue (marked s.atoms v) → IsVariable t v) → SettlesTo t a s s 0
-settles_none t a s known = record {
-  step = Step-same t s;
-  settled = λ v le atom. let k = known v atom in absurd (let lt = k.0 in omega arith);
-  sound = λ w part keeps h. h;
-}
+pub settles_none : (t : TheoryView) (a : List (Option Bool)) (s : Founding) → SettlesAll t a s s []
+settles_none t a s = record { step = Step-same t s; settled = All-nil (HasSettled t a s); sound = λ w part keeps h. h }

@@ -2,6 +2,8 @@ pub mod Bodies
 pub mod Founding
 pub mod Marks
 pub mod Sets
+pub mod Stamps
 pub mod Unfounded
 pub mod Tests
+pub mod Tight
 pub mod Valid

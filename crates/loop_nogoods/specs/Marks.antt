@@ -1,10 +1,7 @@
 -- Tables of bits by variable.
-use Rattle.std.specs.Prelude.{◌≡◌, ℕ, ◌<◌, ◌≤◌, Bool, false, if◌then◌else◌, List, length, slice_index_or, IsFalse}
+use Rattle.std.specs.Prelude.{◌≡◌, ℕ, ◌<◌, ◌≤◌, Bool, if◌then◌else◌, List, length, IsFalse}
+pub use Rattle.sets.specs.Sets.{marked}
 use Rattle.theory_form.specs.Theories.{TheoryView}
-
--- the bit of a variable; clear where it has none
-abbrev pub marked : List Bool → ℕ → Bool
-marked marks v = slice_index_or marks v false
 
 -- this is the number of a variable of the theory
 abbrev pub IsVariable : TheoryView → ℕ → Type 0

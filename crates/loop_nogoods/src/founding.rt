@@ -3,93 +3,64 @@
 // An atom is open where it is one of the program and not false. An open atom is founded where one of its supports is not
 // false and either rests on no body or is the positive literal of a founded body. A body is founded where each open atom
 // that stands positively in it is. The open atoms that are left are the greatest unfounded set.
-ghost use Rattle.std.specs.Prelude.{◌≡◌, ◌↔◌, ◌⊎◌, ◌||◌, ◌==◌, not, ℕ, Bool, ◌+◌, ◌<◌, ◌≤◌, [], length, take, vec_len, All, IfOk, IsFalse, IsTrue, MatchOption, OnOk};
+ghost use Rattle.std.specs.Prelude.{◌≡◌, ◌≢◌, ◌↔◌, ◌⊎◌, ◌||◌, ◌==◌, not, ℕ, Bool, false, Some, ◌+◌, ◌<◌, ◌≤◌, [], length, take, All, Contains, IfOk, IsFalse, IsTrue, MatchOption, OnOk};
 ghost use Rattle.std.specs.List.{AllWithin, HoldsAt};
 ghost use Rattle.theory_form.specs.Theories.{TheoryView};
-ghost use Rattle.loop_nogoods.specs.declared.founding.Wait.{Wait as Waiting};
+ghost use Rattle.loop_nogoods.specs.declared.waits.Wait.{Wait as Waiting};
 ghost use Rattle.theory_form.specs.declared.literals.Lit.{Lit as Literal};
+ghost use Rattle.theory_form.specs.declared.literals.Var.{Var as Variable};
+ghost use Rattle.theory_form.specs.Truth.{value_of};
+ghost use Rattle.sets.specs.Sets.{IsSubset};
 ghost use Rattle.loop_nogoods.specs.Bodies as bodies;
 ghost use Rattle.loop_nogoods.specs.Founding as spec;
-ghost use Rattle.loop_nogoods.specs.Founding.{Appends, AreSettled, Awaits, Drains, IsBegun, IsFinished, IsFit, IsFounding, IsOpenAtom, IsRested, IsSettled, IsSound, IsSubset, IsTended, Keeps, Misses, Step, Takes, waits};
+ghost use Rattle.loop_nogoods.specs.Founding.{Awaits, Drains, IsBegun, IsEmptied, IsFinished, IsFit, IsFounding, IsRested, IsSettled, IsSound, IsTended, Keeps, Misses, SettlesAll, Step, waits};
 ghost use Rattle.loop_nogoods.specs.Marks.{marked};
 
+use crate::stamps::Stamps;
 use crate::supports::{body_lits, support_lits};
+use crate::waits::{Wait, Waits};
 use std::alloc::{AllocError, Global};
-use theory_form::{Assignment, Lit, Marks, Theory, Var};
-
-// A variable that waits for another to be founded. An atom is founded with it. A body is not looked through again before
-// `place`.
-#[derive(Clone, Copy, Debug, Drop)]
-pub struct Wait {
-    head: Var,
-    place: usize,
-}
+use theory_form::{Assignment, Lit, Theory, Var};
 
 // The open atoms, the founded variables, what waits for each variable, and the founded variables for which what waits is
 // still to be looked at.
 #[derive(Drop)]
 pub struct Founding {
-    atoms: Marks,
-    founded: Marks,
-    waiting: Vec<Vec<Wait>>,
+    atoms: Stamps,
+    founded: Stamps,
+    waiting: Waits,
     pending: Vec<Var>,
 }
 
-// Lets something wait for a variable.
-fn add_waiting(waiting: &mut Vec<Vec<Wait>>, v: Var, entry: Wait) -> Result<(), AllocError>
-    requires { v.0 < length waiting.old.items }
-    ensures { OnOk result (Appends waiting.old.items waiting.new.items v.0 entry) }
+// Whether an atom is not false.
+fn is_open(a: &Assignment, v: Var) -> bool
+    ensures { IsTrue result ↔ (value_of a.now v.0 ≢ Some false) }
 {
-    waiting[v.0 as usize].push(entry)?;
-    Ok(())
+    a.value(v) != Some(false)
 }
 
-// What waits for a variable, for which then nothing waits.
-fn take_waiting(alloc: Global, waiting: &mut Vec<Vec<Wait>>, v: Var) -> Vec<Wait>
-    ensures { Takes waiting.old.items waiting.new.items v.0 result.items }
+// How many places a table needs for the variables of the theory. A table of 2^64 places fits no memory.
+fn places_of(t: &Theory) -> Result<usize, AllocError>
+    ensures { IfOk result (λ places. places ≡ length t.now.variables + 1) }
 {
-    let place = v.0 as usize;
-    if place < waiting.len() {
-        std::mem::replace(&mut waiting[place], Vec::new(alloc))
-    } else {
-        Vec::new(alloc)
+    match t.var_count().checked_add(1) {
+        Some(places) => Ok(places as usize),
+        None => Err(AllocError),
     }
 }
 
-// A list for each of so many variables and for place 0, all empty.
-fn nothing_waits(alloc: Global, vars: u64) -> Result<Vec<Vec<Wait>>, AllocError>
-    ensures size { IfOk result (λ waiting. length waiting.items ≡ vars + 1) }
-    ensures none { IfOk result (λ waiting. (v : ℕ) → waits waiting.items v ≡ []) }
+// Marks those of the variables that are not false.
+fn mark_open(vars: &[Var], a: &Assignment, atoms: &mut Stamps)
+    requires places { All (λ (v : Variable). v.0 < length atoms.old) vars.now }
+    requires clear { (v : ℕ) → IsFalse (marked atoms.old v) }
+    ensures places { length atoms.new ≡ length atoms.old }
+    ensures marks { (v : Variable) → IsTrue (marked atoms.new v.0) ↔ (Contains vars.now v × (value_of a.now v.0 ≢ Some false)) }
 {
-    let mut waiting = Vec::new(alloc);
-    waiting.push(Vec::new(alloc))?;
-    for _ in 0..vars {
-        waiting.push(Vec::new(alloc))?;
-    }
-    Ok(waiting)
-}
-
-// Whether a variable is an atom of the program and not false.
-fn is_open_atom(t: &Theory, block: u64, a: &Assignment, v: Var) -> bool
-    ensures { IsTrue result ↔ IsOpenAtom t.now block a.now v.0 }
-{
-    t.block_of(v) == Some(block) && a.value(v) != Some(false)
-}
-
-// Marks for the atoms of the program that are not false.
-fn open_atoms(alloc: Global, t: &Theory, block: u64, a: &Assignment) -> Result<Marks, AllocError>
-    ensures places { IfOk result (λ atoms. length atoms ≡ length t.now.variables + 1) }
-    ensures marks { IfOk result (λ atoms. (v : ℕ) → IsTrue (marked atoms v) ↔ IsOpenAtom t.now block a.now v) }
-{
-    let mut atoms = Marks::new(alloc);
-    atoms.reserve(t.var_count())?;
-    for number in 0..t.var_count() {
-        let v = Var(number + 1);
-        if is_open_atom(t, block, a, v) {
-            atoms.set(v);
+    for v in vars {
+        if is_open(a, *v) {
+            atoms.set(*v);
         }
     }
-    Ok(atoms)
 }
 
 impl Founding {
@@ -149,7 +120,7 @@ impl Founding {
                     head: entry.head,
                     place: place + 1,
                 };
-                add_waiting(&mut self.waiting, lits[place].var, next)?;
+                self.waiting.add(lits[place].var, next)?;
             }
         }
         Ok(())
@@ -171,10 +142,9 @@ impl Founding {
 
     // Whether a variable is founded, or something waits for it.
     fn is_begun(&self, v: Var) -> bool
-        requires { v.0 < length self.now.waiting.items }
-        ensures { result ≡ (marked self.now.founded v.0 || not (length (waits self.now.waiting.items v.0) == 0)) }
+        ensures { result ≡ (marked self.now.founded v.0 || not (length (waits self.now.waiting v.0) == 0)) }
     {
-        self.founded.is_marked(v) || !self.waiting[v.0 as usize].is_empty()
+        self.founded.is_marked(v) || !self.waiting.list(v).is_empty()
     }
 
     // Settles a body, unless it is founded or something waits for it: then it has been settled.
@@ -213,7 +183,7 @@ impl Founding {
             self.found(v)?;
         } else {
             let entry = Wait { head: v, place: 0 };
-            add_waiting(&mut self.waiting, body, entry)?;
+            self.waiting.add(body, entry)?;
         }
         Ok(())
     }
@@ -261,19 +231,16 @@ impl Founding {
         Ok(())
     }
 
-    // Settles the supports of each open atom.
-    fn settle_atoms(&mut self, t: &Theory, a: &Assignment) -> Result<(), AllocError>
+    // Settles the supports of the open atoms among these variables.
+    fn settle_atoms(&mut self, t: &Theory, a: &Assignment, vars: &[Var]) -> Result<(), AllocError>
         requires valid { IsFounding self.old }
         requires tended { IsTended t.now self.old }
         requires fit { IsFit t.now self.old }
-        ensures step { OnOk result (Step t.now self.old self.new) }
-        ensures settled { OnOk result (AreSettled t.now a.now self.new) }
-        ensures sound { OnOk result ((w : ℕ → Bool) → IsSubset w (marked self.old.atoms) → ((v : ℕ) → IsTrue (marked self.old.atoms v) → All (Keeps t.now a.now w v) (bodies.support_lits t.now v)) → IsSound t.now w self.old → IsSound t.now w self.new) }
+        ensures { OnOk result (SettlesAll t.now a.now self.old self.new vars.now) }
     {
-        for number in 0..t.var_count() {
-            let v = Var(number + 1);
-            if self.atoms.is_marked(v) {
-                self.settle_atom(t, a, v)?;
+        for v in vars {
+            if self.atoms.is_marked(*v) {
+                self.settle_atom(t, a, *v)?;
             }
         }
         Ok(())
@@ -287,40 +254,62 @@ impl Founding {
         ensures none { OnOk result (self.new.pending.items ≡ []) }
     {
         while let Some(v) = self.pending.pop() {
-            let list = take_waiting(alloc, &mut self.waiting, v);
+            let list = self.waiting.take(alloc, v);
             self.settle_all(t, list.as_slice())?;
         }
         Ok(())
     }
 
-    // Nothing is founded yet.
-    fn begin(alloc: Global, t: &Theory, block: u64, a: &Assignment) -> Result<Founding, AllocError>
-        ensures { IfOk result (IsBegun t.now block a.now) }
+    // Empties the tables, with a place for each variable of the theory.
+    fn restart(&mut self, alloc: Global, t: &Theory) -> Result<(), AllocError>
+        ensures { OnOk result (IsEmptied t.now self.new) }
     {
-        let atoms = open_atoms(alloc, t, block, a)?;
-        let mut founded = Marks::new(alloc);
-        founded.reserve(t.var_count())?;
-        let waiting = nothing_waits(alloc, t.var_count())?;
-        Ok(Founding {
-            atoms,
-            founded,
-            waiting,
-            pending: Vec::new(alloc),
-        })
+        let places = places_of(t)?;
+        self.atoms.restart(places)?;
+        self.founded.restart(places)?;
+        self.waiting.restart(alloc, places)?;
+        self.pending.clear();
+        Ok(())
     }
 
-    // Finds the founded variables of a program.
-    pub(crate) fn run(
+    // Nothing is founded yet.
+    fn begin(
+        &mut self,
         alloc: Global,
         t: &Theory,
         block: u64,
         a: &Assignment,
-    ) -> Result<Founding, AllocError>
-        ensures { IfOk result (IsFinished t.now block a.now) }
+    ) -> Result<(), AllocError>
+        ensures { OnOk result (IsBegun t.now block a.now self.new) }
     {
-        let mut search = Founding::begin(alloc, t, block, a)?;
-        search.settle_atoms(t, a)?;
-        search.drain(alloc, t)?;
-        Ok(search)
+        self.restart(alloc, t)?;
+        mark_open(t.atoms(block), a, &mut self.atoms);
+        Ok(())
+    }
+
+    // The empty tables.
+    pub(crate) fn new(alloc: Global) -> Self {
+        Founding {
+            atoms: Stamps::new(alloc),
+            founded: Stamps::new(alloc),
+            waiting: Waits::new(alloc),
+            pending: Vec::new(alloc),
+        }
+    }
+
+    // Finds the founded variables of a program.
+    pub(crate) fn run(
+        &mut self,
+        alloc: Global,
+        t: &Theory,
+        block: u64,
+        a: &Assignment,
+    ) -> Result<(), AllocError>
+        ensures { OnOk result (IsFinished t.now block a.now self.new) }
+    {
+        self.begin(alloc, t, block, a)?;
+        self.settle_atoms(t, a, t.atoms(block))?;
+        self.drain(alloc, t)?;
+        Ok(())
     }
 }

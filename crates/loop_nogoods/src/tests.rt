@@ -6,7 +6,7 @@ ghost use Rattle.theory_form.specs.declared.literals.Var.{Var as Variable};
 ghost use Rattle.loop_nogoods.specs.Marks.{AreClear, IsVariable};
 
 use crate::supports::is_variable;
-use crate::{external, loop_valid, unfounded};
+use crate::{Tables, external, loop_valid, unfounded};
 use sqlite_items::Items;
 use std::alloc::{AllocError, Global};
 use std::process::Abort;
@@ -98,14 +98,15 @@ static UNFOUNDED: [(Which, &[i64], &[Var]); 13] = [
 #[test]
 fn loops_whose_outside_support_is_false_true_or_unassigned(rt: HostRuntime) -> Result<(), Fail> {
     let alloc = rt.alloc();
+    let mut tables = Tables::new(alloc);
     for (which, values, want) in &UNFOUNDED {
         let t = theory(&rt, alloc, *which)?;
         let a = assignment(&rt, alloc, values)?;
-        match unfounded(alloc, &t, 0, &a)? {
+        match unfounded(alloc, &t, 0, &a, &mut tables)? {
             None => assert!(rt; want.is_empty(), "at {values:?}"),
             Some(vars) => assert_eq!(rt; vars.as_slice(), *want, "at {values:?}"),
         }
-        assert!(rt; unfounded(alloc, &t, 1, &a)?.is_none());
+        assert!(rt; unfounded(alloc, &t, 1, &a, &mut tables)?.is_none());
     }
     Ok(())
 }

@@ -1,8 +1,9 @@
 use Rattle.std.proofs.Common.{◌<◌, List, length, take, sym, subst, arith}
 use Rattle.std.proofs.lemmas.List.{take_all}
 use Rattle.std.proofs.lemmas.List.Elements.{All-more, All-same, All-weaker}
-use Rattle.loop_nogoods.specs.declared.founding.Wait.{Wait}
-use Rattle.loop_nogoods.specs.Founding.{IsRested, IsSubset}
+use Rattle.loop_nogoods.specs.declared.waits.Wait.{Wait}
+use Rattle.loop_nogoods.specs.Founding.{IsRested}
+use Rattle.sets.specs.Sets.{IsSubset}
 use Rattle.loop_nogoods.specs.Marks.{marked}
 use Rattle.loop_nogoods.proofs.StepLemmas.{Step-then, rested_kept}
 use Rattle.loop_nogoods.proofs.founding.Founding.settle_all.Goals as goal

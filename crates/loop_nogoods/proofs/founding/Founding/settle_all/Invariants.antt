@@ -1,8 +1,9 @@
 use Rattle.std.proofs.Common.{ℕ, Bool, take}
 use Rattle.std.specs.List.{All}
-use Rattle.loop_nogoods.specs.declared.founding.Wait.{Wait}
+use Rattle.loop_nogoods.specs.declared.waits.Wait.{Wait}
 use Rattle.loop_nogoods.specs.Bodies.{body_lits}
-use Rattle.loop_nogoods.specs.Founding.{IsRested, IsSound, IsSubset, Misses, Step}
+use Rattle.loop_nogoods.specs.Founding.{IsRested, IsSound, Misses, Step}
+use Rattle.sets.specs.Sets.{IsSubset}
 use Rattle.loop_nogoods.specs.Marks.{marked}
 use Rattle.loop_nogoods.proofs.founding.Founding.settle_all.Given as goal
 

@@ -3,7 +3,8 @@ use Rattle.std.specs.List.{All}
 use Rattle.std.proofs.lemmas.List.{take_all}
 use Rattle.std.proofs.lemmas.List.Elements.{All-more, All-same}
 use Rattle.theory_form.specs.declared.literals.Lit.{Lit}
-use Rattle.loop_nogoods.specs.Founding.{IsSettled, IsSubset, Keeps}
+use Rattle.loop_nogoods.specs.Founding.{IsSettled, Keeps}
+use Rattle.sets.specs.Sets.{IsSubset}
 use Rattle.loop_nogoods.specs.Marks.{marked}
 use Rattle.loop_nogoods.proofs.StepLemmas.{Step-then, all_settled_kept, tended_kept}
 use Rattle.loop_nogoods.proofs.founding.Founding.settle_atom.Goals as goal

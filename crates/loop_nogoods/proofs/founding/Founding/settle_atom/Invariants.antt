@@ -1,7 +1,8 @@
 use Rattle.std.proofs.Common.{ℕ, Bool, take}
 use Rattle.std.specs.List.{All}
 use Rattle.loop_nogoods.specs.Bodies.{support_lits}
-use Rattle.loop_nogoods.specs.Founding.{IsSettled, IsSound, IsSubset, Keeps, Step}
+use Rattle.loop_nogoods.specs.Founding.{IsSettled, IsSound, Keeps, Step}
+use Rattle.sets.specs.Sets.{IsSubset}
 use Rattle.loop_nogoods.specs.Marks.{marked}
 use Rattle.loop_nogoods.proofs.founding.Founding.settle_atom.Given as goal
 

@@ -1,5 +1,6 @@
-use Rattle.loop_nogoods.specs.Founding.{SettlesTo}
+use Rattle.std.proofs.Common.{take}
+use Rattle.loop_nogoods.specs.Founding.{SettlesAll}
 use Rattle.loop_nogoods.proofs.founding.Founding.settle_atoms.Given as goal
 
-abbrev pub invariant-loop-number : goal.invariant-loop-number
-invariant-loop-number l = SettlesTo l.t l.a l.fn.self l.self l.number
+abbrev pub invariant-loop-v : goal.invariant-loop-v
+invariant-loop-v l = SettlesAll l.t l.a l.fn.self l.self (take l.v-index l.vars)

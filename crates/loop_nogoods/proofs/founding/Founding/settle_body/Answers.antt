@@ -2,7 +2,7 @@ use Rattle.std.proofs.Common.{◌≡◌, ◌≢◌, true, not, inl, List, length
 use Rattle.std.specs.Prelude.{IsTrue, ◌==◌}
 use Rattle.std.proofs.lemmas.Bool.{eqb-false, false_from_ne_true, false≢true, not-true, or_cases}
 use Rattle.std.proofs.lemmas.List.Elements.{Contains-get_or}
-use Rattle.loop_nogoods.specs.declared.founding.Wait.{Wait}
+use Rattle.loop_nogoods.specs.declared.waits.Wait.{Wait}
 use Rattle.loop_nogoods.specs.Bodies.{body_lits}
 use Rattle.loop_nogoods.specs.Founding.{IsRested, waits}
 use Rattle.loop_nogoods.specs.Marks.{marked}
@@ -16,7 +16,7 @@ returns-in_ok-settle-clause-sound c = λ w part sound.
 pub returns-else-not-is_begun-clause-rested : goal.returns-else-not-is_begun-clause-rested
 returns-else-not-is_begun-clause-rested c =
     let s = c.args.self.now in
-    let list : List Wait = waits s.waiting.items c.args.body.0 in
+    let list : List Wait = waits s.waiting c.args.body.0 in
     let none : Wait = record { head = record { 0 = 0 }; place = 0 } in
     ⊎_elim
     (λ (f : marked s.founded c.args.body.0 ≡ true). inl f)
