@@ -1,10 +1,10 @@
 -- Results that do not fit 64 bits are out of range.
-use Rattle.std.proofs.Common.{◌≡◌, ℤ, pos, negsuc, ◌+ℤ◌, ◌-ℤ◌, ◌*ℤ◌, ◌≤ℤ◌, Option, Some, None, refl, ap, ap₂, ◌∙◌, arith, sym, to_z, of_z, w64, FitsSigned, if◌then◌else◌, true, false, Bool}
+use Rattle.std.proofs.Common.{◌≡◌, ℤ, pos, ◌+ℤ◌, ◌-ℤ◌, ◌*ℤ◌, Option, Some, None, refl, ap, ap₂, ◌∙◌, arith, sym, to_z, of_z, w64, FitsSigned, if◌then◌else◌, true, false, Bool}
 use Rattle.std.specs.Prelude.{int_div, int_rem}
 use Rattle.std.specs.Ordering.{int_eq}
 use Rattle.std.specs.Option.{SomeIff, option_and_then}
 use Rattle.std.proofs.lemmas.Int.{ints, quot-rem, to_z-of_z}
-use Rattle.ap_term.specs.Arithmetic.{within, is_integer, quotient, compute}
+use Rattle.ap_term.specs.Arithmetic.{within, is_integer, quotient, result_of}
 use Rattle.ap_term.specs.declared.arithmetic.ArithOp.TheVariants.{Rem}
 
 integer_fits : (z : ℤ) → is_integer z ≡ true → FitsSigned w64 z
@@ -27,9 +27,9 @@ not_zero : (b : ℤ) → (of_z w64 b ≡ 0 → ⊥) → int_eq b (pos 0) ≡ fal
 not_zero b h = grind (arith, ints)
 
 -- what the code's remainder is, where the divisor is not 0
-pub compute-Rem : (a b r : ℤ) (result : Option ℤ) → FitsSigned w64 a → FitsSigned w64 b → FitsSigned w64 r → (of_z w64 b ≡ 0 → ⊥)
-    → r ≡ int_rem (to_z w64 (of_z w64 a)) (to_z w64 (of_z w64 b)) → result ≡ within (to_z w64 (of_z w64 r)) → result ≡ compute Rem a b
-compute-Rem a b r result fa fb fr h e k =
+pub result_of-Rem : (a b r : ℤ) (result : Option ℤ) → FitsSigned w64 a → FitsSigned w64 b → FitsSigned w64 r → (of_z w64 b ≡ 0 → ⊥)
+    → r ≡ int_rem (to_z w64 (of_z w64 a)) (to_z w64 (of_z w64 b)) → result ≡ within (to_z w64 (of_z w64 r)) → result ≡ result_of Rem a b
+result_of-Rem a b r result fa fb fr h e k =
     let r_is : r ≡ int_rem a b = e ∙ ap₂ int_rem (to_z-of_z w64 a fa) (to_z-of_z w64 b fb) in
     let same : within (to_z w64 (of_z w64 r)) ≡ within (a -ℤ (quotient a b *ℤ b)) = ap within (to_z-of_z w64 r fr ∙ r_is ∙ sym (remainder a b)) in
     let away : int_eq b (pos 0) ≡ false = not_zero b h in rw away (k ∙ same)

@@ -1,11 +1,11 @@
 -- The order of two values by their shapes.
-use Rattle.std.proofs.Common.{◌≡◌, ℕ, ◌+◌, ◌<◌, ◌≤◌, ◌≢◌, List, [], ◌∷◌, ◌++◌, length, get_or, take, drop, map, All, refl, sym, ap, ap₂, subst, ◌∙◌, arith, Ordering, Less, Equal, Greater, nat_cmp, int_cmp, add-one}
+use Rattle.std.proofs.Common.{◌≡◌, ℕ, ◌+◌, ◌<◌, ◌≢◌, List, [], ◌∷◌, ◌++◌, length, get_or, take, drop, map, All, refl, sym, ap, ap₂, subst, ◌∙◌, arith, Ordering, Less, Equal, Greater, nat_cmp, int_cmp, add-one}
 use Rattle.std.specs.Ordering.{ordering_then}
 use Rattle.std.proofs.lemmas.List.{length-take, length-map, get_or_at, length-append, take-append-drop, drop_more}
 use Rattle.ap_term.specs.declared.shape.TermId.{TermId}
 use Rattle.ap_term.specs.declared.shape.Shape.{Shape}
 use Rattle.ap_term.specs.declared.shape.Shape.TheVariants.{Int, Sym, Str, Fun}
-use Rattle.ap_term.specs.Value.{Value, integer, constant, string, compound, Values, none, also, arity, arguments_from}
+use Rattle.ap_term.specs.Value.{Value, Values, arity, arguments_from}
 use Rattle.ap_term.specs.Order.{bytes_cmp, value_cmp, values_cmp}
 use Rattle.ap_term.specs.Outline.{arguments_of, outline_cmp}
 use Rattle.ap_term.specs.Difference.{DifferFirstAt}

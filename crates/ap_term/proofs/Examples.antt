@@ -1,8 +1,8 @@
 -- Worked examples of the definitions, which compute.
-use Rattle.std.proofs.Common.{◌≡◌, [], ◌∷◌, refl, negsuc, pos, Less, Some, None}
+use Rattle.std.proofs.Common.{◌≡◌, [], refl, negsuc, pos, Less, Some, None}
 use Rattle.std.specs.Prelude.{codes}
 use Rattle.std.specs.Fmt.{digits}
-use Rattle.ap_term.specs.declared.arithmetic.ArithOp.TheVariants.{Add, Sub, Mul, Div, Rem}
+use Rattle.ap_term.specs.declared.arithmetic.ArithOp.TheVariants.{Add, Sub, Div, Rem}
 use Rattle.ap_term.specs.Value.{Value, integer, constant, string, compound, none, also, depth}
 use Rattle.ap_term.specs.Order.{value_cmp}
 use Rattle.ap_term.specs.Arithmetic.{compute}

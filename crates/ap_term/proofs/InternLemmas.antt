@@ -1,9 +1,9 @@
 -- What one insert of a shape makes of a table.
-use Rattle.std.proofs.Common.{◌≡◌, ℕ, suc, zero, ◌+◌, ◌<◌, ◌≤◌, Bool, true, false, not, cond, is_eq, List, [], ◌∷◌, ◌++◌, length, get_or, take, map, slice_get, Some, pos, All, Contains, refl, sym, ap, ap₂, subst, ◌∙◌, arith, inl, inr, ◌⊎◌, unwrap_or, ⊎_elim, Ordering, Less, Equal, Greater, true≢false, if◌then◌else◌, zero-add}
+use Rattle.std.proofs.Common.{◌≡◌, ℕ, suc, zero, ◌<◌, ◌≤◌, Bool, true, false, is_eq, List, [], ◌∷◌, ◌++◌, length, get_or, take, map, slice_get, Some, pos, All, Contains, refl, sym, ap, ap₂, subst, ◌∙◌, arith, inl, inr, ◌⊎◌, unwrap_or, Ordering, Less, Equal, Greater, true≢false, if◌then◌else◌}
 use Rattle.std.specs.Bool.{Decides}
-use Rattle.std.specs.List.{list_any, position_or_len, prefix_len}
+use Rattle.std.specs.List.{list_any, position_or_len}
 use Rattle.std.specs.Map.{keys_of}
-use Rattle.std.proofs.lemmas.List.{get_or_at, get_or_append_left, length_push, get_or_push, get_or_default, length-take}
+use Rattle.std.proofs.lemmas.List.{get_or_append_left, length_push, get_or_push, get_or_default, length-take}
 use Rattle.std.proofs.lemmas.List.Elements.{All-from_get_or, All-head, All-tail, All-weaker}
 use Rattle.std.proofs.lemmas.List.Folds.{list_any_none, list_any_at}
 use Rattle.std.proofs.lemmas.Option.{slice_get_within, slice_get-get_or}
@@ -11,11 +11,12 @@ use Rattle.indexmap.specs.IndexMap.{insert_entry}
 use Rattle.ap_term.specs.declared.shape.Shape.{Shape}
 use Rattle.ap_term.specs.declared.shape.Shape.TheVariants.{Int, Sym, Str, Fun}
 use Rattle.ap_term.specs.declared.shape.TermId.{TermId}
-use Rattle.ap_term.specs.Value.{Value, integer, constant, string, compound, Values, none, also, arguments_from, list_from, depth}
+use Rattle.ap_term.specs.Value.{Value, integer, arguments_from, list_from, depth}
 use Rattle.ap_term.specs.Order.{value_cmp}
-use Rattle.ap_term.specs.Table.{IsIdOf, value_at, value_of, IsShapeOver, Entry, values_from, IsNext, IsBuilt, HasDistinctValues, insert_value, KeepsIds}
+use Rattle.ap_term.specs.Built.{Entry, values_from, IsNext, IsBuilt}
+use Rattle.ap_term.specs.Table.{IsIdOf, value_at, value_of, IsShapeOver, HasDistinctValues, insert_value, KeepsIds}
 use Rattle.ap_term.proofs.OrderLemmas.{value_same, value_itself}
-use Rattle.ap_term.proofs.TableLemmas.{values_from-push, IsBuilt-push, length-values_from, distinct, length_is, depth_at, shape_at, at_place, IsAt, value_of-append}
+use Rattle.ap_term.proofs.TableLemmas.{values_from-push, IsBuilt-push, distinct, length_is, shape_at, at_place, IsAt}
 
 -- ---- one value, one shape
 list_from-arguments_from : (vs : List Value) → list_from (arguments_from vs) ≡ vs

@@ -1,5 +1,5 @@
 -- What is written for the parts of a value.
-use Rattle.std.proofs.Common.{◌≡◌, ◌≢◌, ℕ, ◌+◌, ◌<◌, ◌≤◌, ◌==◌, Bool, true, false, List, [], ◌∷◌, ◌++◌, length, get_or, take, map, codes, nat_lt, ◌&&◌, refl, sym, ap, ap₂, subst, ◌∙◌, arith, append_assoc, if◌then◌else◌, zero, suc, Result, Ok, Err, is_ok}
+use Rattle.std.proofs.Common.{◌≡◌, ◌≢◌, ℕ, ◌+◌, ◌<◌, ◌≤◌, ◌==◌, Bool, true, List, [], ◌∷◌, ◌++◌, length, get_or, take, map, codes, nat_lt, ◌&&◌, refl, sym, ap, ap₂, subst, ◌∙◌, arith, append_assoc, if◌then◌else◌, suc, Result, Ok, Err, is_ok}
 use Rattle.std.specs.List.{flat_map, join_with_byte}
 use Rattle.std.specs.Str.{IsUtf8}
 use Rattle.std.specs.Char.{encode_utf8}
@@ -12,7 +12,7 @@ use Rattle.std.specs.String.Boundary.{IsSplitPoint}
 use Rattle.std.specs.Prelude.{encode_utf8_all}
 use Rattle.ap_term.specs.Printed.{escaped, Extends, comma, text, texts, mark_of_one}
 use Rattle.ap_term.specs.declared.shape.TermId.{TermId}
-use Rattle.ap_term.specs.Value.{Value, integer, constant, string, compound, Values, none, also, arity, arguments_from}
+use Rattle.ap_term.specs.Value.{Value, compound, arguments_from}
 use Rattle.ap_term.specs.Table.{value_at}
 use Rattle.ap_term.proofs.CompareLemmas.{arity_at}
 

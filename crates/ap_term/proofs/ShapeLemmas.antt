@@ -1,5 +1,5 @@
 -- Shapes that `==` finds equal are one shape.
-use Rattle.std.proofs.Common.{◌≡◌, ℕ, Bool, true, false, ◌&&◌, List, refl, sym, ap, ap₂, ◌∙◌, nat_eq, int_eq, not, ◌≢◌, true≢false}
+use Rattle.std.proofs.Common.{◌≡◌, ℕ, true, ◌&&◌, List, sym, ap, ap₂, ◌∙◌, nat_eq, not, ◌≢◌, true≢false}
 use Rattle.std.specs.Bool.{Decides}
 use Rattle.std.specs.Str.{bytes_eq}
 use Rattle.std.specs.Ordering.{on}

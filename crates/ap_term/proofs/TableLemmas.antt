@@ -1,14 +1,15 @@
 -- What the entries of a table say of its values.
 use Rattle.std.proofs.Common.{◌≡◌, ℕ, suc, zero, ◌+◌, ◌<◌, ◌≤◌, List, [], ◌∷◌, ◌++◌, length, get_or, take, drop, map, slice_get, option_map, Some, pos, All, Contains, refl, sym, ap, ap₂, subst, ◌∙◌, arith, append_assoc, zero-add, ⊎_elim}
-use Rattle.std.proofs.lemmas.List.{append-nil, get_or_append_left, get_or_at, take_at, take-append-le, length_push, get_or-take, length-take-le, take-append-drop}
+use Rattle.std.proofs.lemmas.List.{append-nil, get_or_append_left, get_or_at, take_at, length_push, get_or-take, length-take-le, take-append-drop}
 use Rattle.std.proofs.lemmas.List.Elements.{All-head, All-tail, Contains-get_or}
 use Rattle.std.proofs.lemmas.Bool.{cases_order}
 use Rattle.std.proofs.lemmas.Option.{slice_get_within, slice_get-map, slice_get-get_or, get_or_from_slice_get}
 use Rattle.ap_term.specs.declared.shape.Shape.{Shape}
 use Rattle.ap_term.specs.declared.shape.Shape.TheVariants.{Int, Sym, Str, Fun}
 use Rattle.ap_term.specs.declared.shape.TermId.{TermId}
-use Rattle.ap_term.specs.Value.{Value, integer, constant, string, compound, Values, none, also, arguments_from, depth}
-use Rattle.ap_term.specs.Table.{IsIdOf, value_at, value_of, IsShapeOver, Entry, values_from, IsNext, IsBuilt, HasDistinctValues}
+use Rattle.ap_term.specs.Value.{Value, integer, compound, arguments_from, depth}
+use Rattle.ap_term.specs.Built.{Entry, values_from, IsNext, IsBuilt}
+use Rattle.ap_term.specs.Table.{IsIdOf, value_at, value_of, IsShapeOver, HasDistinctValues}
 
 -- what one more entry adds
 pub values_from-push : (table : List Value) (es : List Entry) (e : Entry) → values_from table (es ++ e ∷ []) ≡ values_from table es ++ value_of (values_from table es) e.0 ∷ []

@@ -16,10 +16,14 @@ within n = if is_integer n then Some n else None
 abbrev pub quotient : ℤ → ℤ → ℤ
 quotient = int_div
 
--- what an operation gives. There is no value where the divisor is 0, nor where the result is out of range
+-- what an operation gives on two integers. There is no value where the divisor is 0, nor where the result is out of range
+abbrev pub result_of : ArithOp → ℤ → ℤ → Option ℤ
+result_of Add a b = within (a +ℤ b)
+result_of Sub a b = within (a -ℤ b)
+result_of Mul a b = within (a *ℤ b)
+result_of Div a b = if int_eq b (pos 0) then None else within (quotient a b)
+result_of Rem a b = if int_eq b (pos 0) then None else within (a -ℤ (quotient a b *ℤ b))
+
+-- what an operation gives: no value where an operand is out of range
 abbrev pub compute : ArithOp → ℤ → ℤ → Option ℤ
-compute Add a b = within (a +ℤ b)
-compute Sub a b = within (a -ℤ b)
-compute Mul a b = within (a *ℤ b)
-compute Div a b = if int_eq b (pos 0) then None else within (quotient a b)
-compute Rem a b = if int_eq b (pos 0) then None else within (a -ℤ (quotient a b *ℤ b))
+compute op a b = if is_integer a && is_integer b then result_of op a b else None

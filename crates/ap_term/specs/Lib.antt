@@ -5,3 +5,4 @@ pub mod Outline
 pub mod Arithmetic
 pub mod Printed
 pub mod Table
+pub mod Built

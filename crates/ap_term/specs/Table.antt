@@ -1,8 +1,8 @@
 -- A table of values, in which an id is a place.
-use Rattle.std.specs.Prelude.{◌≡◌, ℕ, ◌+◌, ◌<◌, ◌≤◌, ⊤, pos, List, [], ◌∷◌, ◌++◌, map, length, All, Contains, slice_index_or, if◌then◌else◌}
+use Rattle.std.specs.Prelude.{◌≡◌, ◌<◌, ◌≤◌, ⊤, pos, List, [], ◌∷◌, ◌++◌, map, length, All, slice_index_or, if◌then◌else◌}
 use Rattle.std.specs.List.{list_any}
 use Rattle.std.specs.Ordering.{is_eq}
-use Rattle.ap_term.specs.Value.{Value, integer, constant, string, compound, arguments_from, depth, IsInteger}
+use Rattle.ap_term.specs.Value.{Value, integer, constant, string, compound, arguments_from, IsInteger}
 use Rattle.ap_term.specs.Order.{value_cmp}
 use Rattle.ap_term.specs.declared.shape.Shape.{Shape}
 use Rattle.ap_term.specs.declared.shape.Shape.TheVariants.{Int, Sym, Str, Fun}
@@ -42,24 +42,3 @@ pub record KeepsIds (old new : List Value) : Type 0 where
 -- one id for each value
 abbrev pub HasDistinctValues : List Value → Type 0
 HasDistinctValues table = (a b : TermId) → IsIdOf table a → IsIdOf table b → value_at table a ≡ value_at table b → a ≡ b
-
--- an entry of a table: a shape, and the depth of its value
-abbrev pub Entry : Type 0
-Entry = Shape × ℕ
-
--- the values of a list of entries, each shape read over those before it
-abbrev pub values_from : List Value → List Entry → List Value
-values_from table [] = table
-values_from table (e ∷ es) = values_from (table ++ value_of table e.0 ∷ []) es
-
--- an entry that may follow the entries of a table: its arguments stand before it, its value is new and at most 128 deep
-pub record IsNext (table : List Value) (e : Entry) : Type 0 where
-  pub over : IsShapeOver table e.0
-  pub new : Contains table (value_of table e.0) → ⊥
-  pub depth_is : e.1 ≡ depth (value_of table e.0)
-  pub shallow : e.1 ≤ 128
-
--- each entry may follow those before it
-abbrev pub IsBuilt : List Value → List Entry → Type 0
-IsBuilt table [] = ⊤
-IsBuilt table (e ∷ es) = IsNext table e × IsBuilt (table ++ value_of table e.0 ∷ []) es

@@ -1,6 +1,6 @@
 //! Arithmetic on the integers among the values.
 ghost use Rattle.std.specs.Prelude.{◌≡◌, option_and_then};
-ghost use Rattle.ap_term.specs.Arithmetic.{compute, within};
+ghost use Rattle.ap_term.specs.Arithmetic.{result_of, is_integer, compute, within};
 
 // The greatest integer that there is. The least is its negative.
 const MAX_INTEGER: i64 = 2_147_483_647;
@@ -17,10 +17,22 @@ pub enum ArithOp {
     Rem,
 }
 
-/// What the operation gives. `None` where the divisor is 0, and where the result is not in -2147483647 to 2147483647.
-#[tactic(auto, using(crate::proofs::ArithmeticLemmas::within_exact, crate::proofs::ArithmeticLemmas::remainder))]
+/// What the operation gives. `None` where an operand or the result is not in -2147483647 to 2147483647, and where the
+/// divisor is 0.
 pub fn arith(op: ArithOp, a: i64, b: i64) -> Option<i64>
     ensures { result ≡ compute op a b }
+{
+    if is_integer(a) && is_integer(b) {
+        result_of(op, a, b)
+    } else {
+        None
+    }
+}
+
+// What the operation gives on operands of any size.
+#[tactic(auto, using(crate::proofs::ArithmeticLemmas::within_exact, crate::proofs::ArithmeticLemmas::remainder))]
+fn result_of(op: ArithOp, a: i64, b: i64) -> Option<i64>
+    ensures { result ≡ result_of op a b }
 {
     match op {
         ArithOp::Add => in_range(a.checked_add(b)),
@@ -30,6 +42,12 @@ pub fn arith(op: ArithOp, a: i64, b: i64) -> Option<i64>
         ArithOp::Rem if b == 0 => None,
         ArithOp::Rem => in_range(Some(a.wrapping_rem(b))),
     }
+}
+
+fn is_integer(number: i64) -> bool
+    ensures { result ≡ is_integer number }
+{
+    -MAX_INTEGER <= number && number <= MAX_INTEGER
 }
 
 // The number, if there is one and it is in range.

@@ -5,7 +5,8 @@ use crate::args::Args;
 use crate::text::Text;
 use std::cmp::Ordering;
 
-/// The number of a value: its place in the table that holds it, counted from 0.
+/// The number of a value: its place in the table that holds it, counted from 0. `<` and `cmp` on numbers are the order in
+/// which the values came, and not the order of values: that is `Terms::compare`.
 #[derive(Clone, Copy, Debug, PartialEq, Eq, PartialOrd, Ord, Hash)]
 pub struct TermId(pub u64);
 

@@ -32,7 +32,7 @@ impl Model for Terms {
     ghost use Rattle.std.specs.Prelude.{List, []};
     ghost use Rattle.std.specs.Coded.{coded_list};
     ghost use Rattle.ap_term.specs.Value.{Value as Term, value_code};
-    ghost use Rattle.ap_term.specs.Table.{values_from, IsBuilt};
+    ghost use Rattle.ap_term.specs.Built.{values_from, IsBuilt};
 
     ghost Value = { List Term };
 
@@ -53,9 +53,10 @@ impl Terms {
         }
     }
 
-    /// How many values the table holds. They have the numbers below this one.
+    /// How many values the table holds. They have the numbers below this one, each value one of them.
     pub fn len(&self) -> u64
-        ensures { result ≡ length self.now }
+        ensures count { result ≡ length self.now }
+        ensures distinct { HasDistinctValues self.now }
     {
         self.nodes.len() as u64
     }

@@ -9,7 +9,7 @@ use std::test::Fail;
 
 const MAX: i64 = 2_147_483_647;
 
-static ARITHMETIC: [(ArithOp, i64, i64, Option<i64>); 23] = [
+static ARITHMETIC: [(ArithOp, i64, i64, Option<i64>); 25] = [
     (ArithOp::Add, MAX, 0, Some(MAX)),
     (ArithOp::Add, MAX, 1, None),
     (ArithOp::Add, -MAX, -1, None),
@@ -32,7 +32,9 @@ static ARITHMETIC: [(ArithOp, i64, i64, Option<i64>); 23] = [
     (ArithOp::Rem, 7, -2, Some(1)),
     (ArithOp::Rem, -7, -2, Some(-1)),
     (ArithOp::Rem, 7, 0, None),
-    (ArithOp::Rem, i64::MIN, -1, Some(0)),
+    (ArithOp::Rem, -MAX, -1, Some(0)),
+    (ArithOp::Rem, i64::MIN, -1, None),
+    (ArithOp::Sub, MAX + 1, 1, None),
 ];
 
 #[test]

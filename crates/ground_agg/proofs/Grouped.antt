@@ -4,8 +4,9 @@ use Rattle.std.specs.Prelude.{◌⊎◌}
 use Rattle.std.specs.Cmp.{IsTotalOrder}
 use Rattle.std.specs.Ordering.{ordering_then}
 use Rattle.std.specs.Cmp.Lexicographic.{pointwise_decides}
-use Rattle.std.proofs.lemmas.Cmp.{on_total, lists_total, int_cmp_total, tied_itself}
+use Rattle.std.proofs.lemmas.Cmp.{on_total, tied_itself}
 use Rattle.ap_term.specs.declared.shape.TermId.{TermId}
+use Rattle.sets.proofs.LiteralLemmas.{literals_cmp-total}
 use Rattle.ap_term.specs.Value.{Value}
 use Rattle.ap_term.specs.Table.{HasDistinctValues}
 use Rattle.ap_term.proofs.OrderLemmas.{value_cmp-total}
@@ -68,7 +69,7 @@ tuple_cmp-total : (table : List Value) → IsTotalOrder (tuple_cmp table)
 tuple_cmp-total table = on_total (tuple_value table) value_cmp-total
 
 condition_cmp-total : IsTotalOrder condition_cmp
-condition_cmp-total = lists_total int_cmp_total
+condition_cmp-total = literals_cmp-total
 
 same_decides : (a b : List TermId) → (is_same_tuple a b ≡ true → a ≡ b) × (a ≡ b → is_same_tuple a b ≡ true)
 same_decides = pointwise_decides (λ x y. (λ e i. record { 0 = eqb-true x.0 y.0 e i }, λ e. eq-eqb x.0 y.0 (ap (λ id. id.0) e)))
@@ -92,7 +93,7 @@ module _ (table : List Value) (apart : HasDistinctValues table) where
 
   pair_parts : (p q : Pair) → IsPairOf table p → IsPairOf table q → pair_cmp table p q ≡ Less → (tuple_cmp table p.tuple q.tuple ≡ Less) ⊎ ((p.tuple ≡ q.tuple) × (condition_cmp p.condition q.condition ≡ Less))
   pair_parts p q h k e =
-      ⊎_elim (λ l. inl l) (λ b. inr (same_tuples table apart p.tuple q.tuple h k b.0, b.1)) (less_parts (tuple_cmp table p.tuple q.tuple) (condition_cmp p.condition q.condition) e)
+      ⊎_elim (λ l. inl l) (λ b. inr (same_tuples table apart p.tuple q.tuple h.members k.members b.0, b.1)) (less_parts (tuple_cmp table p.tuple q.tuple) (condition_cmp p.condition q.condition) e)
 
   begin : (p : Pair) (ps : List Pair) → Each (IsPairOf table) (p ∷ ps) → Ascends (pair_cmp table) (p ∷ ps) → IsBegun (row_of p) ps
   begin p ps valid up = record {

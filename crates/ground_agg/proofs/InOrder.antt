@@ -2,12 +2,13 @@
 use Rattle.std.proofs.Common.{◌≡◌, zero, suc, ◌<◌, List, [], ◌∷◌, ◌++◌, get_or, map, All, AllPairs, Contains, sym, ap, subst, ◌∙◌, inl, inr, ⊎_elim, arith, Ordering, Less, Equal}
 use Rattle.std.specs.Cmp.{IsTotalOrder}
 use Rattle.std.specs.Ordering.{ordering_reverse}
-use Rattle.std.proofs.lemmas.Cmp.{on_total, then_total, lists_total, int_cmp_total}
+use Rattle.std.proofs.lemmas.Cmp.{on_total, then_total}
 use Rattle.std.proofs.lemmas.List.{get_or-map, length-map}
 use Rattle.std.proofs.lemmas.List.Elements.{All-head, All-tail, All-nil, All-cons, All-contains, Contains-get_or, Contains-append_left, Contains-append_right, Contains-append_cases}
 use Rattle.std.proofs.lemmas.List.Kept.{AllPairs-cons}
 use denote.Ref.{Bor}
 use Rattle.ap_term.specs.Value.{Value}
+use Rattle.sets.proofs.LiteralLemmas.{literals_cmp-total}
 use Rattle.ap_term.proofs.OrderLemmas.{value_cmp-total}
 use Rattle.ground_agg.specs.Tuples.{tuple_value}
 use Rattle.ground_agg.specs.Merged.{AreInOrder, merge, pair_cmp}
@@ -15,7 +16,7 @@ use Rattle.ground_agg.specs.declared.pair.Pair.{Pair}
 use Rattle.ground_agg.proofs.MergeLemmas.{IsIn, Each, Ascends, in_merged, ascends_merged}
 
 pub pair_cmp-total : (table : List Value) → IsTotalOrder (pair_cmp table)
-pair_cmp-total table = then_total (on_total (λ (p : Pair). tuple_value table p.tuple) value_cmp-total) (on_total (λ (p : Pair). p.condition) (lists_total int_cmp_total))
+pair_cmp-total table = then_total (on_total (λ (p : Pair). tuple_value table p.tuple) value_cmp-total) (on_total (λ (p : Pair). p.condition) literals_cmp-total)
 
 module _ {X : Type 0} where
   pub each_from : (P : X → Type 0) (xs : List X) → All P xs → Each P xs

@@ -1,6 +1,7 @@
 pub mod TupleOrder
 pub mod MergeLemmas
 pub mod MergeEnd
+pub mod ConditionOrder
 pub mod InOrder
 pub mod SamePairs
 pub mod RowSteps

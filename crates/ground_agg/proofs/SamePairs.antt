@@ -1,12 +1,12 @@
 -- Pairs that the order does not tell apart are the same.
-use Rattle.std.proofs.Common.{◌≡◌, ℤ, List, [], ◌∷◌, map, All, refl, ap₂, Ordering, Less, Equal, Greater, int_cmp}
-use Rattle.std.specs.Ordering.{ordering_then, MatchOrdering}
-use Rattle.std.proofs.lemmas.Cmp.{int_ranked}
+use Rattle.std.proofs.Common.{◌≡◌, List, [], ◌∷◌, map, All, refl, ap₂, Ordering, Less, Equal, Greater}
+use Rattle.std.specs.Ordering.{ordering_then}
 use Rattle.std.proofs.lemmas.List.Elements.{All-head, All-tail}
 use Rattle.ap_term.specs.declared.shape.TermId.{TermId}
 use Rattle.ap_term.specs.Value.{Value, arguments_from}
 use Rattle.ap_term.specs.Table.{IsIdOf, value_at, HasDistinctValues}
 use Rattle.ap_term.proofs.OrderLemmas.{value_same}
+use Rattle.sets.proofs.LiteralLemmas.{same_literals}
 use Rattle.ground_agg.specs.Tuples.{tuple_cmp, tuple_value, condition_cmp}
 use Rattle.ground_agg.specs.Gathered.{IsPairOf}
 use Rattle.ground_agg.specs.Merged.{pair_cmp}
@@ -16,20 +16,6 @@ pub then_parts : (o p : Ordering) → ordering_then o p ≡ Equal → (o ≡ Equ
 then_parts Less p e = cc
 then_parts Equal p e = (refl, e)
 then_parts Greater p e = cc
-
-int_same : (a b : ℤ) → int_cmp a b ≡ Equal → a ≡ b
-int_same a b e = middle _ _ _ (int_cmp a b) e (int_ranked a b (int_cmp a b) refl)
-  where
-    middle : (P Q R : Type 0) (o : Ordering) → o ≡ Equal → MatchOrdering o P Q R → Q
-    middle P Q R Less e m = cc
-    middle P Q R Equal e m = m
-    middle P Q R Greater e m = cc
-
-pub same_conditions : (c d : List ℤ) → condition_cmp c d ≡ Equal → c ≡ d
-same_conditions [] [] e = refl
-same_conditions [] (n ∷ d) e = cc
-same_conditions (m ∷ c) [] e = cc
-same_conditions (m ∷ c) (n ∷ d) e = let p = then_parts (int_cmp m n) (condition_cmp c d) e in ap₂ ◌∷◌ (int_same m n p.0) (same_conditions c d p.1)
 
 module _ (table : List Value) (apart : HasDistinctValues table) where
   same_ids : (a b : List TermId) → All (IsIdOf table) a → All (IsIdOf table) b → arguments_from (map (value_at table) a) ≡ arguments_from (map (value_at table) b) → a ≡ b
@@ -49,4 +35,4 @@ module _ (table : List Value) (apart : HasDistinctValues table) where
   pub same_pairs : (p q : Pair) → IsPairOf table p → IsPairOf table q → pair_cmp table p q ≡ Equal → p ≡ q
   same_pairs p q h k e =
       let parts = then_parts (tuple_cmp table p.tuple q.tuple) (condition_cmp p.condition q.condition) e in
-      ap₂ (λ t c. record { tuple = t; condition = c }) (same_tuples p.tuple q.tuple h k parts.0) (same_conditions p.condition q.condition parts.1)
+      ap₂ (λ t c. record { tuple = t; condition = c }) (same_tuples p.tuple q.tuple h.members k.members parts.0) (same_literals p.condition q.condition parts.1)

@@ -4,13 +4,15 @@ use Rattle.std.specs.declared.cmp.Ordering.TheVariants.{Less}
 use Rattle.ap_term.specs.declared.shape.TermId.{TermId}
 use Rattle.ap_term.specs.Value.{Value}
 use Rattle.ap_term.specs.Table.{IsIdOf}
+use Rattle.sets.specs.Literals.{AreLiteralsInOrder}
 use Rattle.ground_agg.specs.Tuples.{tuple_cmp, condition_cmp}
 use Rattle.ground_agg.specs.declared.pair.Pair.{Pair}
 use Rattle.ground_agg.specs.declared.row.TupleRow.{TupleRow}
 
--- a pair whose tuple is made of values of the table
-abbrev pub IsPairOf : List Value → Pair → Type 0
-IsPairOf table pair = All (IsIdOf table) pair.tuple
+-- a pair whose tuple is made of values of the table, and whose condition is a set: its literals are in order, each once
+pub record IsPairOf (table : List Value) (pair : Pair) : Type 0 where
+  pub members : All (IsIdOf table) pair.tuple
+  pub condition : AreLiteralsInOrder pair.condition
 
 -- the rows that gather the pairs that were found
 pub record IsGathered (table : List Value) (found : List Pair) (rows : List TupleRow) : Type 0 where

@@ -1,9 +1,8 @@
 -- The order of tuples and of conditions.
 use Rattle.std.specs.Prelude.{List, []}
 use Rattle.std.specs.declared.cmp.Ordering.{Ordering}
-use Rattle.std.specs.Ordering.{int_cmp}
 use Rattle.std.specs.Prelude.{ℤ}
-use Rattle.std.specs.Cmp.Lexicographic.{slice_cmp}
+use Rattle.sets.specs.Literals.{literals_cmp}
 use Rattle.ap_term.specs.declared.shape.TermId.{TermId}
 use Rattle.ap_term.specs.declared.shape.Shape.TheVariants.{Fun}
 use Rattle.ap_term.specs.Value.{Value}
@@ -18,6 +17,7 @@ tuple_value table ids = value_of table (Fun [] ids)
 abbrev pub tuple_cmp : List Value → List TermId → List TermId → Ordering
 tuple_cmp table s t = value_cmp (tuple_value table s) (tuple_value table t)
 
--- conditions number by number, a proper front first
+-- conditions in the order of lists of literals: literals by their atoms, the positive one first, and lists member by member,
+-- a proper prefix first
 abbrev pub condition_cmp : List ℤ → List ℤ → Ordering
-condition_cmp = slice_cmp int_cmp
+condition_cmp = literals_cmp

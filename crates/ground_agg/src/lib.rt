@@ -1,6 +1,7 @@
 //! The tuples of an aggregate or a choice, with the conditions under which they count.
 #![tactic(auto)]
 
+mod conditions;
 mod fault;
 mod gathering;
 mod grouping;
@@ -11,6 +12,7 @@ mod row;
 #[cfg(test)]
 mod tests;
 
+pub use conditions::are_in_order;
 pub use fault::AggFault;
 pub use gathering::gather;
 pub use pair::Pair;

@@ -1,8 +1,9 @@
-//! The order of tuples and of pairs.
+//! The order of tuples, of conditions and of pairs.
 ghost use Rattle.std.specs.Prelude.{◌≡◌, length, map, All};
 ghost use Rattle.ap_term.specs.Value.{arguments_from};
 ghost use Rattle.ap_term.specs.Order.{values_cmp};
 ghost use Rattle.ap_term.specs.Table.{IsIdOf, value_at};
+ghost use Rattle.sets.specs.Literals.{literal_cmp, literals_cmp};
 ghost use Rattle.ground_agg.specs.Gathered.{IsPairOf};
 ghost use Rattle.ground_agg.specs.Merged.{pair_cmp};
 ghost use Rattle.ground_agg.specs.Tuples.{tuple_cmp};
@@ -18,7 +19,32 @@ pub(crate) fn compare_pairs(terms: &Terms, a: &Pair, b: &Pair) -> Ordering
     ensures { result ≡ pair_cmp terms.now a.now b.now }
 {
     match compare_tuples(terms, a.tuple.as_slice(), b.tuple.as_slice()) {
-        Ordering::Equal => a.condition.as_slice().cmp(b.condition.as_slice()),
+        Ordering::Equal => compare_conditions(a.condition.as_slice(), b.condition.as_slice()),
+        unequal => unequal,
+    }
+}
+
+// The order of two conditions: their literals decide from first to last, and a proper prefix comes first.
+fn compare_conditions(a: &[i64], b: &[i64]) -> Ordering
+    ensures { result ≡ literals_cmp a.now b.now }
+{
+    let mut at = 0;
+    while at < a.len() && at < b.len() {
+        match compare_literals(a[at], b[at]) {
+            Ordering::Equal => at += 1,
+            unequal => return unequal,
+        }
+    }
+    a.len().cmp(&b.len())
+}
+
+// The order of two literals: by their atoms, and of one atom the positive one first.
+#[tactic(auto, using(sets::proofs::LiteralLemmas::literal_cmp_parts))]
+pub(crate) fn compare_literals(a: i64, b: i64) -> Ordering
+    ensures { result ≡ literal_cmp a b }
+{
+    match a.unsigned_abs().cmp(&b.unsigned_abs()) {
+        Ordering::Equal => (a < 0).cmp(&(b < 0)),
         unequal => unequal,
     }
 }

@@ -7,6 +7,7 @@ use sqlite_items::Items;
 pub struct Pair {
     /// The members of the tuple, from first to last. There may be none, or more than a written tuple may have.
     pub tuple: Args,
-    /// Signed places in a list of atoms: a place for the atom, and its negation for `not`.
+    /// Literals: an atom's number, and its negative for `not`. They are in order, by atom and the positive one first, and
+    /// each stands once.
     pub condition: Items<i64>,
 }

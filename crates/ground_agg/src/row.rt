@@ -11,7 +11,8 @@ use std::alloc::{AllocError, Global};
 pub struct TupleRow {
     /// The members of the tuple, from first to last.
     pub tuple: Args,
-    /// The conditions, of which at least one has to hold. Each is a list of signed places in a list of atoms.
+    /// The conditions, of which at least one has to hold. Each is a list of literals: an atom's number, and its negative for
+    /// `not`.
     pub conditions: Items<Items<i64>>,
 }
 

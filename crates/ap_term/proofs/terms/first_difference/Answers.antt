@@ -1,4 +1,4 @@
-use Rattle.std.proofs.Common.{◌≡◌, length, take, drop, rules, arith, refl, sym, subst, ap, ◌∙◌}
+use Rattle.std.proofs.Common.{length, rules}
 use Rattle.std.proofs.lemmas.Slice.Zip.{zip_turn}
 use Rattle.ap_term.proofs.CompareLemmas.{differ_at}
 use Rattle.ap_term.proofs.ShapeLemmas.{ids_differ}

@@ -1,4 +1,4 @@
-use Rattle.std.proofs.Common.{◌≡◌, arith}
+use Rattle.std.proofs.Common.{arith}
 use Rattle.ap_term.proofs.PrintLemmas.{flat_map-character, pushed}
 use Rattle.ap_term.proofs.written.push_escaped.Goals as goal
 

@@ -1,4 +1,3 @@
-use Rattle.std.proofs.Common.{◌≡◌, arith}
 use Rattle.ap_term.proofs.PrintLemmas.{flat_map-more}
 use Rattle.ap_term.proofs.written.push_quoted.Goals as goal
 

@@ -20,7 +20,7 @@ pub returns-clause-gathered : goal.returns-clause-gathered
 returns-clause-gathered c =
     let ps = map (λ (p : Bor Pair). p.now) c.in-Ok.pairs.items in
     let whole : IsGathered c.args.terms.now c.args.found.now (rows_of ps) =
-    gathered c.args.terms.now c.read_distinct.ensures c.args.found.now ps
+    gathered c.args.terms.now c.len.ensures.distinct c.args.found.now ps
     (All-map (IsPairOf c.args.terms.now) (λ (p : Bor Pair). p.now) c.in-Ok.pairs.items (pairs_within c.args.terms.now (IsPairOf c.args.terms.now) c.args.found.now c.in-Ok.pairs.items c.requires (c.in-Ok.ensures {u = tt})))
     (c.in-Ok.ensures {u = tt}) in
     subst (IsGathered c.args.terms.now c.args.found.now) (sym (c.in-Ok-rows_of.ensures {u = tt} ∙ ap (λ xs. rows_of (map (λ (p : Bor Pair). p.now) xs)) c.deref.ensures.value)) whole

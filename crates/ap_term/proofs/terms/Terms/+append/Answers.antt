@@ -1,4 +1,4 @@
-use Rattle.std.proofs.Common.{◌≡◌, ◌++◌, string_bytes, is_ok, if◌then◌else◌, ◌==◌, ◌&&◌, length, sym, ap, ap₂, ◌∙◌, arith}
+use Rattle.std.proofs.Common.{◌++◌, string_bytes, is_ok, if◌then◌else◌, ◌==◌, ◌&&◌, length, sym, ap, ap₂, ◌∙◌, arith}
 use Rattle.ap_term.specs.declared.shape.Shape.TheVariants.{Fun}
 use Rattle.ap_term.specs.Table.{value_of}
 use Rattle.ap_term.proofs.PrintLemmas.{written_more, written_compound}

@@ -1,12 +1,9 @@
-use Rattle.std.proofs.Common.{◌≡◌, ℕ, ◌<◌, rules, arith, sym, ap, ap₂, ◌∙◌, subst, Equal, Ordering}
-use Rattle.std.specs.Ordering.{ordering_then}
-use Rattle.ap_term.specs.Order.{value_cmp, values_cmp}
-use Rattle.ap_term.specs.Outline.{outline_cmp, arguments_of}
-use Rattle.ap_term.specs.Table.{value_at, value_of}
+use Rattle.std.proofs.Common.{rules, arith, sym, ap, ◌∙◌, Equal}
+use Rattle.ap_term.specs.Order.{value_cmp}
+use Rattle.ap_term.specs.Table.{value_at}
 use Rattle.ap_term.proofs.OrderLemmas.{value_itself}
 use Rattle.ap_term.proofs.ShapeLemmas.{same_id}
 use Rattle.ap_term.proofs.CompareLemmas.{are_first, by_first, by_same, by_outline, equal_values}
-use Rattle.ap_term.specs.Difference.{DifferFirstAt}
 use Rattle.ap_term.proofs.terms.Terms.+compare.Goals as goal
 
 pub returns-then-eq-clause-order : goal.returns-then-eq-clause-order

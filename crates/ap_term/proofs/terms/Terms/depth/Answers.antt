@@ -1,4 +1,4 @@
-use Rattle.std.proofs.Common.{arith, ◌≡◌, ◌≤◌}
+use Rattle.std.proofs.Common.{arith}
 use Rattle.ap_term.proofs.TableLemmas.{length_is, depth_at}
 use Rattle.ap_term.proofs.terms.Terms.depth.Goals as goal
 

@@ -1,5 +1,6 @@
-use Rattle.std.proofs.Common.{◌≡◌, ℕ, Bool, true, false, ap, sym, subst, arith, []}
-use Rattle.ap_term.specs.Table.{HasDistinctValues, IsBuilt, KeepsIds, value_of}
+use Rattle.std.proofs.Common.{sym, subst, arith, []}
+use Rattle.ap_term.specs.Built.{IsBuilt}
+use Rattle.ap_term.specs.Table.{HasDistinctValues, KeepsIds, value_of}
 use Rattle.ap_term.proofs.TableLemmas.{distinct}
 use Rattle.ap_term.proofs.ShapeLemmas.{equal_shapes}
 use Rattle.ap_term.proofs.InternLemmas.{IsInterned, interned, kept}

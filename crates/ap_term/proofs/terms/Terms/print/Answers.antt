@@ -1,4 +1,3 @@
-use Rattle.std.proofs.Common.{◌≡◌, arith}
 use Rattle.ap_term.proofs.PrintLemmas.{split_at_end}
 use Rattle.ap_term.proofs.terms.Terms.print.Goals as goal
 
