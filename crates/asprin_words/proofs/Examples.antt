@@ -1,5 +1,5 @@
 -- Rows of words, by the definition alone.
-use Rattle.std.proofs.Common.{◌≡◌, ℕ, false, true, refl, List, [], ◌∷◌, Option, Some, None, codes}
+use Rattle.std.proofs.Common.{◌≡◌, ℕ, false, refl, List, [], ◌∷◌, Option, Some, None, codes}
 use Rattle.std.specs.Char.{encode_utf8}
 use Rattle.std.specs.Str.{chars}
 use Rattle.asprin_words.specs.Asked.{Asked, asked_by, audit, solve}

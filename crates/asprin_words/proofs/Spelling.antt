@@ -1,11 +1,11 @@
 -- What a word is by the library's words is what it is by ours.
-use Rattle.std.proofs.Common.{◌≡◌, ◌∙◌, ◌&&◌, ◌==◌, ℕ, Bool, cond, true, false, refl, sym, ap, List, [], ◌∷◌, length, drop, Option, Some, None, codes}
+use Rattle.std.proofs.Common.{◌≡◌, ◌&&◌, ◌==◌, ℕ, Bool, cond, true, false, refl, ap, List, [], ◌∷◌, length, drop, Option, Some, None, codes}
 use Rattle.std.specs.Prelude.{encode_utf8, option_and_then, slice_get}
 use Rattle.std.specs.Option.{option_map_or}
 use Rattle.std.specs.Str.{bytes_eq, chars}
 use Rattle.clap.specs.Lexer.{long_of, long_of_rest, short_of, short_of_rest, strip_byte}
 use Rattle.clap.specs.Walk.{attached_value}
-use Rattle.asprin_words.specs.Spelled.{Form, Known, Text, attached, behind_hyphen, ends, form_of, hyphen_form, known_long, known_short, letter_form, option_form, parted, plain}
+use Rattle.asprin_words.specs.Spelled.{Form, Known, Text, attached, ends, form_of, hyphen_form, known_long, known_short, letter_form, option_form, parted, plain}
 
 attached_agrees : (text : Text) → attached text ≡ attached_value text
 attached_agrees [] = refl

@@ -1,5 +1,5 @@
 -- What words ask for; nothing where a program has no such words.
-use Rattle.std.specs.Prelude.{ℕ, ◌||◌, Bool, List, [], map, codes, if◌then◌else◌, Option, Some, None, option_map, option_and_then, string_bytes}
+use Rattle.std.specs.Prelude.{ℕ, ◌||◌, Bool, List, [], map, codes, if◌then◌else◌, Option, None, option_map, option_and_then, string_bytes}
 use Rattle.std.specs.Prelude.{String}
 use Rattle.std.specs.declared.alloc.Global.{Global}
 use Rattle.asprin_words.specs.Options.{asprin_options, led_options}

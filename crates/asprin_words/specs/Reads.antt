@@ -1,9 +1,6 @@
 -- What a function that reads a part of the words answers.
-use Rattle.std.specs.Prelude.{◌≡◌, ℕ, map, List, Option, None, Some, Result, Ok, Err, option_map, string_bytes}
-use Rattle.std.specs.Prelude.{String}
-use Rattle.std.specs.declared.alloc.Global.{Global}
+use Rattle.std.specs.Prelude.{◌≡◌, map, Option, None, Some, Result, Ok, Err, option_map, string_bytes}
 use Rattle.asprin_words.specs.Asked.{Asked, AskedLed, Auditing, Solving, audit, solve, texts_of}
-use Rattle.asprin_words.specs.Spelled.{Text}
 use Rattle.asprin_words.specs.Values.{Meaning, Setting, Source, files, made, minus, number, symbol}
 use Rattle.asprin_words.specs.Values as value
 use Rattle.asprin_words.specs.declared.fault.WordsFault.{WordsFault}
