@@ -16,15 +16,16 @@ use Rattle.ap_parse.specs.Openings.{is_of_type}
 use Rattle.ap_parse.specs.Texts.{IsReading}
 use Rattle.canonical_law.specs.Unplaced.{unplaced}
 
--- The statements of a text that begins in a part, with preference statements in the grammar (`whole`) or without, by the
--- tokens of the text as those of some file.
+-- The statements of a text that begins in a part, with preference statements in the grammar (`whole`) or without, by
+-- the tokens of the text as those of some file.
 pub record AreStatementsOf (whole : Bool) (part : PartKind) (text : List ℕ) (file : ℕ) (statements : List Statement) : Type 0 where
   pub tokens : List Token
   pub are : IsTokens text tokens
   pub text_is : IsText grammar (Name.Text whole (is_of_type part)) (lexemes_of text file tokens) (program statements)
 
--- The canonical text of the program is a text of the grammar, for statements that are those of the program but for their
--- places. It is UTF-8, and goes beyond no limit of nesting, of arity or of formulas. So it is read as these statements.
+-- The canonical text of the program is a text of the grammar, for statements that are those of the program but for
+-- their places. It is UTF-8, and goes beyond no limit of nesting, of arity or of formulas. So it is read as these
+-- statements.
 pub record ReadsBack (whole : Bool) (part : PartKind) (p : Program) (file : ℕ) : Type 0 where
   pub statements : List Statement
   pub are : AreStatementsOf whole part (canonical_text p) file statements

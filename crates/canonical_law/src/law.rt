@@ -9,10 +9,11 @@ ghost use Rattle.ap_syntax.specs.declared.programs.Program.{Program};
 ghost use Rattle.canonical_law.specs.ReadsBack.{ReadsBack};
 ghost use Rattle.canonical_law.specs.Unplaced.{unplaced};
 
-/// The law of the canonical text, with no code. The canonical text of a program that was read is a text of the grammar, for
-/// the same statements but for their places, is UTF-8, and goes beyond no limit of nesting, arity or formulas. So it is
-/// read as these statements: in a file, as well as in the part in which a text without preference statements was read.
-/// Programs that differ in places alone have one canonical text, so the canonical text of what is read of it is itself.
+/// The law of the canonical text, with no code. The canonical text of a program that was read is a text of the grammar,
+/// for the same statements but for their places, is UTF-8, and goes beyond no limit of nesting, arity or formulas. So it
+/// is read as these statements: in a file, as well as in the part in which a text without preference statements was
+/// read. Programs that differ in places alone have one canonical text, so the canonical text of what is read of it is
+/// itself.
 pub fn canonical_text_reads_back()
     ensures reads_back { (whole : Bool) (part : PartKind) (bytes : List ℕ) (file : ℕ) (p : Program)
         → IsReading whole part bytes file (Ok p)
