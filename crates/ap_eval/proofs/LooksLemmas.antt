@@ -7,7 +7,7 @@ use Rattle.std.proofs.lemmas.List.{set-get_or, map-set, length-map, get_or_defau
 use Rattle.std.proofs.lemmas.List.Elements.{All-nil, All-cons, All-weaker, All-contains, Contains-get_or}
 use Rattle.std.proofs.lemmas.List.Sums.{list_all-from_AllPass, AllPass-from_list_all}
 use Rattle.std.proofs.lemmas.Option.{same_Some, none-some}
-use Rattle.definite.proofs.Drains.{marked_within}
+use Rattle.definite.proofs.MarkLemmas.{marked_within}
 use Rattle.definite.specs.Rules.{marked, obeys, IsRuleOf, IsDerived}
 use Rattle.definite.specs.declared.Derived.{Derived}
 use Rattle.definite.specs.declared.Rule.{Rule}

@@ -1,6 +1,6 @@
 -- Tables of bits by variable.
 use Rattle.std.specs.Prelude.{◌≡◌, ℕ, ◌<◌, ◌≤◌, Bool, if◌then◌else◌, List, length, IsFalse}
-pub use Rattle.sets.specs.Sets.{marked}
+pub use Rattle.definite.specs.Rules.{marked}
 use Rattle.theory_form.specs.Theories.{TheoryView}
 
 -- this is the number of a variable of the theory

@@ -1,7 +1,7 @@
 use Rattle.std.proofs.Common.{◌≡◌, ◌<◌, [], List, length, sym, ap, ◌∙◌, subst, arith, slice_set}
 use Rattle.std.specs.Global.{Vec}
 use Rattle.std.proofs.lemmas.Bool.{false_from_ne_true, false≢true}
-use Rattle.sets.proofs.SetLemmas.{marked_within}
+use Rattle.definite.proofs.MarkLemmas.{marked_within}
 use Rattle.loop_nogoods.specs.declared.waits.Wait.{Wait}
 use Rattle.loop_nogoods.specs.Founding.{waits}
 use Rattle.loop_nogoods.specs.Marks.{marked}
