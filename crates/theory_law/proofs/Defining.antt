@@ -1,5 +1,5 @@
 -- The clauses of a program's theory define its bodies.
-use Rattle.std.proofs.Common.{◌≡◌, ℕ, zero, suc, ◌+◌, ◌-◌, ◌<◌, ◌≤◌, Bool, true, List, [], ◌∷◌, ◌++◌, map, length, refl, sym, ap, ◌∙◌, subst, Option, Some, None, ⊎_elim, arith}
+use Rattle.std.proofs.Common.{◌≡◌, ℕ, zero, suc, ◌+◌, ◌-◌, ◌<◌, ◌≤◌, Bool, true, List, [], ◌∷◌, ◌++◌, map, length, refl, sym, ap, ◌∙◌, subst, Option, Some, ⊎_elim, arith}
 use Rattle.std.specs.Prelude.{slice_get}
 use Rattle.std.specs.List.{range_with_len}
 use Rattle.std.proofs.lemmas.Bool.{and_parts, cases_lt}
@@ -26,7 +26,7 @@ use Rattle.theory_build.specs.Completion.{kinds_of, clauses_of, base_entries, ba
 use Rattle.theory_build.proofs.BaseLemmas.{program_extends}
 use Rattle.theory_law.specs.Appending.{CanStandBehind}
 use Rattle.theory_law.proofs.Clauses.{clauses_true}
-use Rattle.theory_law.proofs.Entries.{IsEntryTrue, IsKindTrue, AreDefined, truth_defined}
+use Rattle.theory_law.proofs.Entries.{IsKindTrue, AreDefined, truth_defined}
 use Rattle.theory_law.proofs.Pieces.{StandBefore, groups_defined}
 use Rattle.theory_law.proofs.Bodies.{bodies_from_at, bodies_defined}
 use Rattle.theory_law.proofs.Slots.{AreSlotsTrue, slots_from_clauses, slots_of, split_all}

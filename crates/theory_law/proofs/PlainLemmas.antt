@@ -1,15 +1,13 @@
 -- A theory with plain variables and clauses more.
-use Rattle.std.proofs.Common.{◌≡◌, ◌↔◌, ℕ, zero, suc, ◌+◌, ◌-◌, ◌<◌, ◌≤◌, Bool, ◌&&◌, List, [], ◌∷◌, ◌++◌, map, take, length, refl, sym, ap, ◌∙◌, subst, Option, Some, None, ⊎_elim, arith}
-use Rattle.std.specs.Prelude.{ℤ, All, IfSome, IsSomeAnd, IsTrue, Contains, slice_get}
+use Rattle.std.proofs.Common.{◌≡◌, ◌↔◌, ℕ, zero, suc, ◌+◌, ◌-◌, ◌<◌, ◌≤◌, Bool, ◌&&◌, List, ◌++◌, length, refl, sym, ap, ◌∙◌, subst, Option, Some, None, ⊎_elim, arith}
+use Rattle.std.specs.Prelude.{ℤ, All, IfSome, IsSomeAnd, Contains, slice_get}
 use Rattle.std.specs.Option.{option_and_then}
-use Rattle.std.specs.List.{AllByRecursion}
 use Rattle.std.proofs.lemmas.Bool.{cases_lt}
 use Rattle.std.proofs.lemmas.List.{length-append, length-take}
 use Rattle.std.proofs.lemmas.List.Elements.{All-append, All-weaker, All-from_recursion, recursion_from_All}
 use Rattle.std.proofs.lemmas.Option.{get_or_from_slice_get, slice_get_within}
 use Rattle.theory_form.specs.declared.literals.Lit.{Lit}
 use Rattle.theory_form.specs.declared.literals.Var.{Var}
-use Rattle.theory_form.specs.declared.rows.SumRow.{SumRow}
 use Rattle.theory_form.specs.declared.rows.VarKind.{VarKind}
 use Rattle.theory_form.specs.declared.rows.VarKind.TheVariants.{Atom, Sum, Body, Search, Other}
 use Rattle.theory_form.specs.Kinds.{atom_block, atom_supports, body_row, sum_row, IsKind}
@@ -23,8 +21,8 @@ use Rattle.ground_form.specs.Ranges.{IsNumberOf}
 use Rattle.theory_build.proofs.BaseLemmas.{extends_more}
 use Rattle.theory_law.specs.Growth.{AllTrue, IsMore}
 use Rattle.theory_law.proofs.Slots.{AreSlotsTrue, IsSlotTrue, slots_from_clauses, clauses_from_slots, split_all, join_all}
-use Rattle.theory_law.proofs.Layouts.{block_parts, slice_get_back}
-use Rattle.theory_law.proofs.Agreeing.{block_range, kind_range, support_range}
+use Rattle.theory_law.proofs.Layouts.{slice_get_back}
+use Rattle.theory_law.proofs.Agreeing.{block_range, support_range}
 
 -- ---- a theory that begins with another one
 

@@ -32,7 +32,7 @@ use Rattle.theory_law.specs.Appending.{CanStandBehind}
 use Rattle.theory_law.specs.Growth.{IsMore}
 use Rattle.theory_law.specs.Standing.{StandsOn, has_base}
 use Rattle.theory_law.proofs.Agreeing.{kind_range}
-use Rattle.theory_law.proofs.Layouts.{slice_get_front, slice_get_back, kinds_append, kinds_length, atoms_length}
+use Rattle.theory_law.proofs.Layouts.{slice_get_front, slice_get_back, kinds_append}
 use Rattle.theory_law.proofs.Appended.{behind_whole}
 use Rattle.theory_law.proofs.Bases.{base_whole}
 use Rattle.theory_law.proofs.Defining.{base_bodies, behind_bodies}

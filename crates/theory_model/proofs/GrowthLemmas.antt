@@ -1,5 +1,5 @@
 -- A theory that begins with another one.
-use Rattle.std.proofs.Common.{◌≡◌, ℕ, zero, suc, ◌<◌, ◌≤◌, ◌⊎◌, inl, inr, Bool, true, false, ◌&&◌, List, length, take, get_or, Option, Some, None, refl, ap, sym, ◌∙◌, subst, arith}
+use Rattle.std.proofs.Common.{◌≡◌, ℕ, zero, suc, ◌≤◌, inl, inr, Bool, true, false, ◌&&◌, List, length, take, get_or, Option, Some, None, refl, ap, sym, ◌∙◌, subst, arith}
 use Rattle.std.specs.Prelude.{ℤ, IfSome, IsTrue, IsFalse, IsSomeAnd}
 use Rattle.std.specs.Option.{option_and_then}
 use Rattle.std.specs.List.{All, Contains}
@@ -14,10 +14,9 @@ use Rattle.theory_form.specs.declared.rows.VarKind.{VarKind}
 use Rattle.theory_form.specs.declared.rows.VarKind.TheVariants.{Atom, Sum, Body, Search, Other}
 use Rattle.theory_form.specs.Kinds.{atom_block, atom_supports, body_row, sum_row}
 use Rattle.theory_form.specs.Numbers.{at_number}
-use Rattle.theory_form.specs.Theories.{TheoryView, Extends, block_of, body_of, clause_of, kind_of, row_of, supports_of}
+use Rattle.theory_form.specs.Theories.{TheoryView, Extends, body_of, clause_of, kind_of, row_of, supports_of}
 use Rattle.theory_form.proofs.NumberLemmas.{at_number-kept, at_number-take, at_number_within}
-use Rattle.theory_model.specs.Bodies.{AreClausesTrue, DefinesBodies, HasNoMoreBodies}
-use Rattle.theory_model.specs.Truth.{clause_true}
+use Rattle.theory_model.specs.Bodies.{DefinesBodies, HasNoMoreBodies}
 use Rattle.theory_model.specs.Loops.{AreAtomsOf, IsLoopClause, is_internal, rests_on}
 use Rattle.theory_model.specs.Models.{IsModel}
 use Rattle.theory_model.specs.Whole.{AreOver, IsKindOver, IsWhole}

@@ -1,5 +1,5 @@
 -- Assignments with more places.
-use Rattle.std.proofs.Common.{◌≡◌, ℕ, zero, suc, ◌<◌, ◌≤◌, inl, inr, Bool, not, List, [], ◌∷◌, length, set, replicate, Option, Some, None, get_or, sym, ◌∙◌, subst, arith, length-set}
+use Rattle.std.proofs.Common.{◌≡◌, ℕ, suc, ◌<◌, ◌≤◌, inl, inr, Bool, not, List, [], ◌∷◌, length, set, replicate, Option, Some, None, get_or, sym, ◌∙◌, subst, arith, length-set}
 use Rattle.std.specs.List.{All}
 use Rattle.std.proofs.lemmas.Bool.{cases_eq}
 use Rattle.std.proofs.lemmas.List.{get_or-set_same, get_or-set_other, get_or-replicate, length-replicate}

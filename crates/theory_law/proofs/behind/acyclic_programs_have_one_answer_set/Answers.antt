@@ -1,4 +1,4 @@
-use Rattle.std.proofs.Common.{◌+◌, suc, length, arith}
+use Rattle.std.proofs.Common.{suc, length, arith}
 use mathlib.Core.Path.{fun_ext}
 use Rattle.theory_law.proofs.Levels.{answer_from_fixed, fixed_from_answer, one_fixed, stable_set}
 use Rattle.theory_law.proofs.behind.acyclic_programs_have_one_answer_set.Goals as goal
