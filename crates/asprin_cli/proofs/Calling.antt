@@ -14,7 +14,8 @@ len_is all = all.rest.ok.0
 
 -- the words behind the first are those that are left when it was taken
 behind_first : (all left : Args) (first : Option (String Global)) → into_iter_steps all first left
-    → into_iter_items all ≡ option_to_list first ++ into_iter_items left → texts_of (into_iter_items left) ≡ drop 1 (texts_of (into_iter_items all))
+    → into_iter_items all ≡ option_to_list first ++ into_iter_items left
+    → texts_of (into_iter_items left) ≡ drop 1 (texts_of (into_iter_items all))
 behind_first all left None steps items =
     let none : into_iter_items all ≡ [] = nil_from_length (into_iter_items all) (sym (len_is all) ∙ steps.0) in
     let same : into_iter_items left ≡ [] = sym items ∙ none in
@@ -22,7 +23,8 @@ behind_first all left None steps items =
 behind_first all left (Some word) steps items = rw steps.0 refl
 
 -- and those are collected
-pub collected : {E : Type 0} (all left : Args) (first : Option (String Global)) (found : Result (Vec (String Global) Global) E)
+pub collected : {E : Type 0} (all left : Args) (first : Option (String Global))
+    (found : Result (Vec (String Global) Global) E)
     → into_iter_steps all first left → into_iter_items all ≡ option_to_list first ++ into_iter_items left
     → IfOk found (λ words. vec_items words ≡ into_iter_items left)
     → IfOk found (λ words. texts_of words.items ≡ drop 1 (texts_of (into_iter_items all)))

@@ -29,6 +29,7 @@ error_or (Ok x) other = other
 error_or (Err e) other = e
 
 pub err_same : {A B : Type 0} (r : Result A B) (x y : B) → r ≡ Err x → r ≡ Err y → x ≡ y
+unfolding error_or
 err_same r x y one other = sym (ap (λ q. error_or q x) one) ∙ ap (λ q. error_or q x) other
 
 -- ---- statuses of refusals
@@ -87,14 +88,26 @@ module _ (words : List (List ℕ)) (src : SourceUse) (files : List (List ℕ)) (
   texts_may printed ends.NoOptimum shown = rw given_is (same, shown)
   texts_may printed (ends.Done count) shown = rw given_is (same, shown)
 
-  texts_whole : (status : Status) (old new : List ℕ) → TookWhole (TextsEnd files) status old new → TookWhole (MayEnd words src) status old new
+  texts_whole : (status : Status) (old new : List ℕ) → TookWhole (TextsEnd files) status old new
+      → TookWhole (MayEnd words src) status old new
   texts_whole status old new took =
-      record { printed = took.printed; end = took.end; may = texts_may took.printed took.end took.may; named = took.named; text = took.text }
+      record {
+        printed = took.printed;
+        end = took.end;
+        may = texts_may took.printed took.end took.may;
+        named = took.named;
+        text = took.text;
+      }
 
   texts_part : (old new : List ℕ) → TookPart (TextsEnd files) old new → TookPart (MayEnd words src) old new
   texts_part old new (inl none) = inl none
   texts_part old new (inr some) =
-      inr (record { printed = some.printed; end = some.end; may = texts_may some.printed some.end some.may; text = some.text })
+      inr (record {
+        printed = some.printed;
+        end = some.end;
+        may = texts_may some.printed some.end some.may;
+        text = some.text;
+      })
 
   texts_named : (status : Status) → IsStatusOf (TextsEnd files) status → IsStatusOf (MayEnd words src) status
   texts_named status (printed, end, may, is) = (printed, end, texts_may printed end may, is)
@@ -113,7 +126,8 @@ module _ (words : List (List ℕ)) (src : SourceUse) where
   stopped_source Memory reading e = cc
 
   -- it did not
-  stopped_same : (stop : Stop) → Reading stop → (stop_status stop ≡ statuses.Source → ⊥) → src.faults_now ≡ src.faults_before
+  stopped_same : (stop : Stop) → Reading stop → (stop_status stop ≡ statuses.Source → ⊥)
+      → src.faults_now ≡ src.faults_before
   stopped_same (Source opened) reading other = elim (other refl) [ ]
   stopped_same (Refused r) reading other = reading.0
   stopped_same Memory reading other = reading
@@ -134,8 +148,10 @@ module _ (words : List (List ℕ)) (src : SourceUse) (out : SinkUse) (status : S
       → status ≢ statuses.NoOptimum → status ≢ statuses.Usage → status ≢ statuses.Source → IsRun words src out status
   texts_run files given_is same asked whole part named optimum no_usage no_source =
       record {
-        whole = λ tells told full. texts_whole words src files same (given_is tells) status out.taken_before out.taken_now (whole told full);
-        part = λ tells told cut. texts_part words src files same (given_is tells) out.taken_before out.taken_now (part told cut);
+        whole = λ tells told full.
+            texts_whole words src files same (given_is tells) status out.taken_before out.taken_now (whole told full);
+        part = λ tells told cut.
+            texts_part words src files same (given_is tells) out.taken_before out.taken_now (part told cut);
         named = λ tells full. texts_named words src files same (given_is tells) status (named full);
         optimum = optimum;
         sink = rose;
@@ -151,20 +167,25 @@ module _ (words : List (List ℕ)) (src : SourceUse) (out : SinkUse) (status : S
       }
 
   -- the run stopped before there were texts
-  pub stop_run : (stop : Stop) → ReadStop src.tells words src.held src.faults_before src.faults_now src.opens_before src.opens_now stop
+  pub stop_run : (stop : Stop)
+      → ReadStop src.tells words src.held src.faults_before src.faults_now src.opens_before src.opens_now stop
       → ((files_of words ≡ None) ↔ (stop ≡ Refused refusals.Usage))
       → (is_cut status ≡ false → status ≡ stop_status stop)
       → (IsTrue out.tells → is_cut status ≡ false → out.taken_now ≡ out.taken_before ++ stop_line stop)
-      → (IsTrue out.tells → is_cut status ≡ true → TookFront out.taken_before out.taken_now (stop_line stop)) → IsRun words src out status
+      → (IsTrue out.tells → is_cut status ≡ true → TookFront out.taken_before out.taken_now (stop_line stop))
+      → IsRun words src out status
   stop_run stop reading asked named all front =
       record {
-        whole = λ tells told full. read_stop_whole words src tells stop status out.taken_before out.taken_now reading full (named full) (all told full);
-        part = λ tells told cut. read_stop_part words src tells stop out.taken_before out.taken_now reading (front told cut);
+        whole = λ tells told full.
+            read_stop_whole words src tells stop status out.taken_before out.taken_now reading full (named full) (all told full);
+        part = λ tells told cut.
+            read_stop_part words src tells stop out.taken_before out.taken_now reading (front told cut);
         named = λ tells full. read_stop_named words src tells stop status reading full (named full);
         optimum = λ e. stop_optimum stop (sym (named (uncut status statuses.NoOptimum e refl)) ∙ e);
         sink = rose;
         no_sink = kept;
-        source = λ e. (stopped_source words src stop reading (sym (named (uncut status statuses.Source e refl)) ∙ e)).1.rose;
+        source = λ e.
+            (stopped_source words src stop reading (sym (named (uncut status statuses.Source e refl)) ∙ e)).1.rose;
         no_source = λ other full. stopped_same words src stop reading (λ e. other (named full ∙ e));
         source_line = λ told e.
             let full = uncut status statuses.Source e refl in
@@ -205,8 +226,11 @@ memory_run words src out status is faults opened missed taken failed =
     }
 
 -- whatever the words are, where there are some
-pub memory_runs : (words : Option (List (List ℕ))) (src : SourceUse) (out : SinkUse) (status : Status) → status ≡ statuses.Memory
+pub memory_runs : (words : Option (List (List ℕ))) (src : SourceUse) (out : SinkUse) (status : Status)
+    → status ≡ statuses.Memory
     → src.faults_now ≡ src.faults_before → src.opens_now ≡ src.opens_before → src.absent_now ≡ src.absent_before
-    → out.taken_now ≡ out.taken_before → out.faults_now ≡ out.faults_before → IfSome words (λ ws. IsRun ws src out status)
+    → out.taken_now ≡ out.taken_before → out.faults_now ≡ out.faults_before
+    → IfSome words (λ ws. IsRun ws src out status)
 memory_runs None src out status is faults opened missed taken failed = tt
-memory_runs (Some words) src out status is faults opened missed taken failed = memory_run words src out status is faults opened missed taken failed
+memory_runs (Some words) src out status is faults opened missed taken failed =
+    memory_run words src out status is faults opened missed taken failed

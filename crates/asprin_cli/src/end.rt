@@ -53,7 +53,7 @@ pub enum Refusal {
 /// How a run ends.
 #[derive(Clone, Copy, Debug, PartialEq, Eq)]
 pub enum End {
-    /// The source failed; the number counts the inputs that were opened.
+    /// The source failed in the open of this number, counted from 1, or in reading what it opened.
     Source(u64),
     Refused(Refusal),
     /// There is no answer set.
