@@ -1,8 +1,6 @@
 -- What holds of the clauses that the steps of a log added and that are kept.
-use Rattle.std.proofs.Common.{◌≡◌, ℕ, zero, suc, ◌+◌, ◌-◌, ◌<◌, ◌≤◌, inl, inr, Bool, true, false, List, [], ◌∷◌, length, Option, Some, None, refl, ap, sym, ◌∙◌, subst, arith}
+use Rattle.std.proofs.Common.{◌≡◌, ℕ, zero, suc, ◌+◌, ◌-◌, ◌<◌, ◌≤◌, inl, inr, Bool, true, false, List, [], ◌∷◌, length, Option, Some, None, refl, sym, ◌∙◌, subst, arith}
 use Rattle.std.specs.Prelude.{reverse, IsTrue, nat_lt}
-use Rattle.std.specs.Option.{option_and_then}
-use Rattle.std.proofs.lemmas.Bool.{cases_lt}
 use Rattle.theory_form.specs.declared.literals.Lit.{Lit}
 use Rattle.theory_form.specs.declared.literals.ClauseId.{ClauseId}
 use Rattle.theory_form.specs.declared.literals.Var.{Var}
@@ -19,7 +17,7 @@ use Rattle.loop_nogoods.specs.Sets.{has}
 use Rattle.proof_log.specs.declared.steps.Step.{Step}
 use Rattle.proof_log.specs.declared.steps.Step.TheVariants.{Found, Passed, Improve, Dominate, Exclude, Learn, Loop, Sum, Erase, Optimal, Closed}
 use Rattle.proof_log.specs.Logs.{IsLog, IsLogged, IsNextSkipped, LogStep, below}
-use Rattle.proof_log.specs.States.{clause_among, either, entry_of, put, taken}
+use Rattle.proof_log.specs.States.{clause_among, either, entry_of, put}
 use Rattle.proof_log.specs.Valid.{AreOfProgram, IsSumClause, LearnAsks}
 use Rattle.proof_log.proofs.ProgramLemmas.{has_first}
 use Rattle.proof_log.proofs.TruthLemmas.{Slots, entry_put, entry_taken, sum_clause_true, true_of_either}

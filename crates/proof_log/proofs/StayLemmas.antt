@@ -1,5 +1,5 @@
 -- A log that is valid over a theory is valid over a longer one, step by step.
-use Rattle.std.proofs.Common.{◌≡◌, ℕ, zero, suc, ◌+◌, ◌-◌, ◌<◌, ◌≤◌, inl, inr, Bool, true, false, List, [], ◌∷◌, length, take, drop, Option, Some, None, refl, ap, sym, ◌∙◌, subst, arith}
+use Rattle.std.proofs.Common.{◌≡◌, ℕ, ◌+◌, ◌<◌, ◌≤◌, inl, inr, Bool, true, false, List, [], ◌∷◌, length, take, drop, Option, Some, None, refl, ap, sym, ◌∙◌, subst, arith}
 use Rattle.std.specs.Prelude.{reverse, IsSome, IsSomeAnd, nat_lt}
 use Rattle.std.specs.List.{All}
 use Rattle.std.proofs.lemmas.Bool.{cases_lt, ltb-true}
@@ -9,7 +9,7 @@ use Rattle.theory_form.specs.declared.literals.ClauseId.{ClauseId}
 use Rattle.theory_form.specs.declared.rows.SumRow.{SumRow}
 use Rattle.theory_form.specs.Hints.{FollowsByHints}
 use Rattle.theory_form.specs.Kinds.{sum_row}
-use Rattle.theory_form.specs.Theories.{TheoryView, Extends, clause_of, row_of}
+use Rattle.theory_form.specs.Theories.{TheoryView, Extends, row_of}
 use Rattle.theory_model.specs.Loops.{AreAtomsOf, IsLoopClause}
 use Rattle.theory_model.specs.Whole.{AreOver, IsWhole}
 use Rattle.theory_model.proofs.GrowthLemmas.{atoms_longer, clause_kept, longer_look}

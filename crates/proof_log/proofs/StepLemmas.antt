@@ -1,5 +1,5 @@
 -- A valid step keeps a log valid.
-use Rattle.std.proofs.Common.{◌≡◌, ℕ, zero, suc, ◌+◌, ◌-◌, ◌<◌, ◌≤◌, inl, inr, ◌++◌, Bool, true, false, List, [], ◌∷◌, length, Option, Some, None, get_or, replicate, refl, ap, sym, ◌∙◌, subst, arith, length-append}
+use Rattle.std.proofs.Common.{◌≡◌, ℕ, zero, suc, ◌+◌, ◌-◌, ◌<◌, ◌≤◌, ◌++◌, Bool, true, false, List, [], ◌∷◌, length, Option, None, refl, ap, sym, ◌∙◌, subst, arith, length-append}
 use Rattle.std.specs.Prelude.{reverse, slice_get, IsSome, nat_lt}
 use Rattle.std.specs.Option.{option_and_then}
 use Rattle.std.proofs.lemmas.Bool.{ltb-false}
@@ -7,14 +7,13 @@ use Rattle.std.proofs.lemmas.List.{reverse-append}
 use mathlib.Core.Path.{fun_ext}
 use Rattle.theory_form.specs.declared.literals.Lit.{Lit}
 use Rattle.theory_form.specs.Theories.{TheoryView, clause_of}
-use Rattle.loop_nogoods.specs.Sets.{has}
 use Rattle.proof_log.specs.declared.steps.Step.{Step}
 use Rattle.proof_log.specs.declared.steps.Step.TheVariants.{Found, Passed, Improve, Dominate, Exclude, Learn, Loop, Sum, Erase, Optimal, Closed}
 use Rattle.proof_log.specs.After.{IsAfter}
 use Rattle.proof_log.specs.Logs.{IsLog, IsLogged, IsNextSkipped, IsStepOver, LogStep, below}
 use Rattle.proof_log.specs.States.{StateView, clause_in, either, entry_of, put, taken}
 use Rattle.proof_log.specs.Steps.{IsJudged}
-use Rattle.proof_log.specs.Valid.{AreOfProgram, IsValid, LearnAsks}
+use Rattle.proof_log.specs.Valid.{IsValid, LearnAsks}
 use Rattle.proof_log.proofs.LogLemmas.{log_within}
 use Rattle.proof_log.proofs.TruthLemmas.{Slots}
 
