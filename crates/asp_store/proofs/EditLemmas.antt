@@ -32,11 +32,8 @@ Adds-inserted slots next lists id c h = record {
 pub code-below : (c : List Lit) (n i : ℕ) (d : Lit) (lists : List (List Watcher)) → IsWithin n c → 2 * n ≤ length lists → i < length c → code (get_or c i d) < length lists
 code-below c n i d lists w room within = let low = w i d within in let q = code-le (get_or c i d) in omega (arith, low, q)
 
-pub Listed-new : (lists : List (List Watcher)) (id : ℕ) (c : List Lit) (j : ℕ) (d e : Lit) → 0 < length c → j < length c → HasWatcher (list_at lists (code (get_or c 0 d))) id c → HasWatcher (list_at lists (code (get_or c j e))) id c → Listed lists id (record { first = 0; second = j; clause = c })
-Listed-new lists id c j d e some within f s = record {
-  first = λ x h. HasWatcher-place lists c 0 id c d x some f;
+pub Listed-new : (lists : List (List Watcher)) (id : ℕ) (c : List Lit) (i j : ℕ) (d e : Lit) → i < length c → j < length c → HasWatcher (list_at lists (code (get_or c i d))) id c → HasWatcher (list_at lists (code (get_or c j e))) id c → Listed lists id (record { first = i; second = j; clause = c })
+Listed-new lists id c i j d e some within f s = record {
+  first = λ x h. HasWatcher-place lists c i id c d x some f;
   second = λ x h. HasWatcher-place lists c j id c e x within s;
 }
-
-pub Listed-empty : (lists : List (List Watcher)) (id : ℕ) (c : List Lit) (j : ℕ) → length c ≡ 0 → Listed lists id (record { first = 0; second = j; clause = c })
-Listed-empty lists id c j none = record { first = λ x h. absurd (omega arith); second = λ x h. absurd (omega arith) }

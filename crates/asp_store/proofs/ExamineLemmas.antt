@@ -1,8 +1,7 @@
 -- What a look at one clause does.
-use Rattle.std.proofs.Common.{◌≡◌, ℕ, zero, suc, ◌+◌, ◌*◌, ◌<◌, ◌≤◌, ◌≢◌, ◌⊎◌, inl, inr, Bool, true, false, not, List, [], ◌∷◌, length, Option, Some, None, get_or, refl, ap, sym, ◌∙◌, subst, arith, cond}
+use Rattle.std.proofs.Common.{◌≡◌, ℕ, zero, suc, ◌+◌, ◌*◌, ◌<◌, ◌≤◌, ◌≢◌, inl, inr, Bool, true, false, not, List, [], ◌∷◌, length, Option, Some, None, get_or, refl, ap, sym, ◌∙◌, subst, arith, cond}
 use Rattle.std.specs.Prelude.{option_map}
 use Rattle.std.specs.List.{Contains}
-use Rattle.std.proofs.lemmas.Bool.{cases_eq}
 use Rattle.std.proofs.lemmas.List.{get_or-set_same, get_or_default}
 use Rattle.theory_form.specs.declared.literals.Lit.{Lit}
 use Rattle.theory_form.specs.Truth.{IsFalseIn, IsTrueIn, TrueAt, FreeAt, IsUnitAt}
@@ -13,7 +12,7 @@ use Rattle.asp_store.specs.Store.{clause_at, AllWithin, IsReason}
 use Rattle.theory_form.proofs.LookLemmas.{TrueAt-read}
 use Rattle.asp_store.specs.declared.choices.Kept.{Kept}
 use Rattle.asp_store.specs.declared.watches.Watcher.{Watcher}
-use Rattle.asp_store.specs.Watch.{kept_at, clauses_of, list_at, code, AreFreeOrSame, AreStable, HasTrue, HasWatcher, WatchOk, Listed, Grows, Rewatched, IsPlacesIn}
+use Rattle.asp_store.specs.Watch.{kept_at, clauses_of, list_at, code, AreFreeOrSame, AreStable, HasWatcher, WatchOk, Listed, Grows, Rewatched, IsPlacesIn}
 use Rattle.asp_store.proofs.WatchLemmas.{WatchOk-true, contains_place}
 
 pub any_lit : Lit

@@ -1,17 +1,17 @@
 -- Which clauses are refuted by assumptions.
-use Rattle.std.proofs.Common.{◌≡◌, ℕ, zero, suc, ◌+◌, ◌*◌, ◌<◌, ◌≤◌, ◌≢◌, ◌⊎◌, inl, inr, Bool, true, false, not, ◌||◌, List, [], ◌∷◌, length, Option, Some, None, get_or, refl, ap, sym, ◌∙◌, subst, arith, ◌↔◌}
-use Rattle.std.specs.Prelude.{IsTrue, MatchOption}
+use Rattle.std.proofs.Common.{◌≡◌, ℕ, ◌+◌, ◌*◌, ◌<◌, ◌≤◌, inl, inr, true, false, not, List, length, Option, Some, None, get_or, refl, sym, subst, arith}
+use Rattle.std.specs.Prelude.{MatchOption}
 use Rattle.std.specs.List.{All, Contains}
 use Rattle.std.proofs.lemmas.Bool.{cases_lt}
 use Rattle.std.proofs.lemmas.List.{get_or_default}
-use Rattle.std.proofs.lemmas.List.Elements.{All-contains, Contains-get_or}
+use Rattle.std.proofs.lemmas.List.Elements.{All-contains}
 use Rattle.theory_form.specs.declared.literals.Lit.{Lit}
 use Rattle.theory_form.specs.Literals.{opposite}
-use Rattle.asp_store.specs.Store.{clause_at, AllWithin, IsNegated, IsRefuting, NoneRefuting}
+use Rattle.asp_store.specs.Store.{AllWithin, IsNegated, IsRefuting, NoneRefuting}
 use Rattle.asp_store.proofs.HeadLemmas.{kept_from_clause}
 use Rattle.asp_store.specs.declared.choices.Kept.{Kept}
 use Rattle.asp_store.specs.declared.watches.Watcher.{Watcher}
-use Rattle.asp_store.specs.Watch.{kept_at, clauses_of, list_at, code, HasWatcher, InFrom, AllListed, AreEmptiesIn, IsRefutingAt}
+use Rattle.asp_store.specs.Watch.{clauses_of, list_at, code, HasWatcher, AllListed, AreEmptiesIn, IsRefutingAt}
 use Rattle.asp_store.proofs.ExamineLemmas.{clause_from_kept, zero_lit}
 
 -- one element more

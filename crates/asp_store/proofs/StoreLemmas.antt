@@ -2,15 +2,15 @@
 use Rattle.std.proofs.Common.{◌≡◌, ℕ, zero, suc, ◌+◌, ◌-◌, ◌<◌, ◌≤◌, ◌≢◌, inl, inr, Bool, List, [], ◌∷◌, length, Option, Some, None, get_or, refl, ap, sym, ◌∙◌, subst, arith, cond, nat_le, true, false}
 use Rattle.std.proofs.lemmas.Bool.{cases_eq, cases_lt}
 use Rattle.std.proofs.lemmas.Bool.Decides.{eqb_tells}
-use Rattle.std.proofs.Common.{suc, eq-eqb, ◌⊎◌, ◌==◌}
+use Rattle.std.proofs.Common.{suc, eq-eqb}
 use Rattle.std.specs.Prelude.{Any}
 use Rattle.std.specs.Cmp.{nat_cmp_is}
 use Rattle.std.specs.Ordering.{ordering_then, bool_cmp}
 use Rattle.std.specs.declared.cmp.Ordering.TheVariants.{Less, Greater}
 use Rattle.std.specs.Prelude.{slice_get}
 use Rattle.std.proofs.lemmas.Option.{get_or_from_slice_get, slice_get_within}
-use Rattle.std.proofs.Common.{max, replicate, reverse, IsTrue, ◌↔◌}
-use Rattle.std.proofs.lemmas.List.{get_or-reverse, length-reverse, get_or_default}
+use Rattle.std.proofs.Common.{max, replicate, IsTrue, ◌↔◌}
+use Rattle.std.proofs.lemmas.List.{get_or_default}
 use Rattle.std.proofs.lemmas.List.{get_or_append_left, get_or-append_right, get_or_past}
 use Rattle.theory_form.specs.declared.literals.Lit.{Lit}
 use Rattle.theory_form.specs.Literals.{IsAscending, lit_cmp}

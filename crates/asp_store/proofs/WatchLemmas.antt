@@ -15,7 +15,7 @@ use Rattle.asp_trail.proofs.TrailLemmas.{back-done, back-step}
 use Rattle.asp_store.specs.declared.choices.Kept.{Kept}
 use Rattle.asp_store.specs.declared.visits.Mark.{Mark}
 use Rattle.asp_store.specs.declared.watches.Watcher.{Watcher}
-use Rattle.asp_store.specs.Watch.{kept_at, list_at, code, HasTrue, HasWatcher, InFrom, older, WatchOk, WatchesAt, Listed, LevelOk, IsWatched, LowerOk, IsBelow, ChoiceOk, IsPlaced, Grows, Rewatched, AllListed}
+use Rattle.asp_store.specs.Watch.{kept_at, list_at, code, HasTrue, HasWatcher, InFrom, older, WatchOk, Listed, LevelOk, IsWatched, LowerOk, IsBelow, ChoiceOk, IsPlaced, Grows, Rewatched, AllListed}
 use Rattle.asp_store.specs.declared.choices.Choice.TheVariants.{Stay, Watch, Assign}
 
 -- what is true stays true under another assignment

@@ -1,6 +1,6 @@
 -- What a contract sees of a `Store`: the clauses by key, the entries of the trail, the newest first, how many places there
 -- are for variables, and the key of the next clause that is added.
-use Rattle.std.specs.Prelude.{◌≡◌, ◌≢◌, ℕ, ◌+◌, ◌<◌, ◌≤◌, ◌++◌, ◌⊎◌, Bool, List, [], ◌∷◌, max, Option, Some, None, slice_index_or, Any}
+use Rattle.std.specs.Prelude.{◌≡◌, ◌≢◌, ℕ, ◌+◌, ◌<◌, ◌++◌, Bool, List, [], ◌∷◌, max, Option, Some, None, slice_index_or, Any}
 use Rattle.std.specs.List.{All, Contains}
 use Rattle.theory_form.specs.declared.literals.Lit.{Lit}
 use Rattle.theory_form.specs.Literals.{IsAscending, opposite}

@@ -102,8 +102,8 @@ pub fn drop_done(pending: &mut Vec<usize>, top: &mut Mark, level: usize)
     top.done = 0;
 }
 
-/// Puts a clause into the slab and into the lists of its first two literals, and makes the places of its variables. Where it
-/// fails nothing changes but that lists may have keys more.
+/// Puts a clause into the slab and into the lists of the two literals that are the best to watch, and makes the places of its
+/// variables. Where it fails nothing changes but that lists may have keys more.
 pub fn insert(
     alloc: Global,
     clauses: &mut Slab<Kept>,
@@ -126,10 +126,10 @@ pub fn insert(
     let clause = Lits::from_slice(alloc, lits)?;
     clauses.reserve(1)?;
     let id = clauses.vacant_key();
-    let second = second_place(lits);
-    list_new(lists, id, lits, second)?;
+    let first = best_place(trail, lits, lits.len());
+    let second = best_place(trail, lits, first);
+    list_new(lists, id, lits, first, second)?;
     reserve_clause(trail, lits)?;
-    let first = 0;
     Ok(clauses.insert_reserved(Kept {
         first,
         second,
@@ -137,11 +137,28 @@ pub fn insert(
     }))
 }
 
-// The second place of a clause, or the first where there is no second.
-fn second_place(lits: &[Lit]) -> usize
+// How good a literal is to watch: the better, the later it has no value on the way back.
+fn rank(trail: &Trail, l: Lit) -> u64 {
+    if !trail.assignment().is_false(l) {
+        return u64::MAX;
+    }
+    match trail.why(l.var) {
+        Some((_, level)) => level,
+        None => u64::MAX,
+    }
+}
+
+// The place of the literal that is the best to watch, but for one place where there are others.
+fn best_place(trail: &Trail, lits: &[Lit], but: usize) -> usize
     ensures { 0 < length lits.now → result < length lits.now }
 {
-    if lits.len() > 1 { 1 } else { 0 }
+    let mut best = if but == 0 && lits.len() > 1 { 1 } else { 0 };
+    for i in 0..lits.len() {
+        if i != but && rank(trail, lits[i]) > rank(trail, lits[best]) {
+            best = i;
+        }
+    }
+    best
 }
 
 /// Notes the key of a clause that is empty.

@@ -183,28 +183,41 @@ pub fn pass(clauses: &Slab<Kept>, lists: &mut Lists, l: Lit, i: usize, watcher: 
 }
 
 /// Puts a new clause into the lists of two of its literals, which may be one.
-pub fn list_new(lists: &mut Lists, id: usize, lits: &[Lit], second: usize) -> Result<(), AllocError>
+pub fn list_new(
+    lists: &mut Lists,
+    id: usize,
+    lits: &[Lit],
+    first: usize,
+    second: usize,
+) -> Result<(), AllocError>
     requires codes { All (λ l. code l < length lists.old) lits.now }
-    requires place { 0 < length lits.now → second < length lits.now }
+    requires first_in { 0 < length lits.now → first < length lits.now }
+    requires second_in { 0 < length lits.now → second < length lits.now }
     ensures grows { Grows lists.old lists.new }
-    ensures listed { OnOk result (Listed lists.new id (record { first = 0; second = second; clause = lits.now })) }
+    ensures listed { OnOk result (Listed lists.new id (record { first = first; second = second; clause = lits.now })) }
 {
     if lits.len() == 0 {
         return Ok(());
     }
-    list_two(lists, id, lits, second)
+    list_two(lists, id, lits, first, second)
 }
 
-// Puts a new clause that is not empty into the lists of its first literal and of another, or the same.
-fn list_two(lists: &mut Lists, id: usize, lits: &[Lit], second: usize) -> Result<(), AllocError>
+// Puts a new clause that is not empty into the lists of two of its literals, which may be one.
+fn list_two(
+    lists: &mut Lists,
+    id: usize,
+    lits: &[Lit],
+    first: usize,
+    second: usize,
+) -> Result<(), AllocError>
     requires codes { All (λ l. code l < length lists.old) lits.now }
-    requires some { 0 < length lits.now }
-    requires place { second < length lits.now }
+    requires first_in { first < length lits.now }
+    requires second_in { second < length lits.now }
     ensures grows { Grows lists.old lists.new }
-    ensures listed { OnOk result (Listed lists.new id (record { first = 0; second = second; clause = lits.now })) }
+    ensures listed { OnOk result (Listed lists.new id (record { first = first; second = second; clause = lits.now })) }
 {
-    list_moved(lists, id, 1, 0, lits[0], lits[second])?;
-    list_moved(lists, id, 0, second, lits[second], lits[0])?;
+    list_moved(lists, id, lits.len(), first, lits[first], lits[second])?;
+    list_moved(lists, id, first, second, lits[second], lits[first])?;
     Ok(())
 }
 

@@ -1,6 +1,4 @@
 use Rattle.std.proofs.Common.{get_or, ◌∙◌}
-use Rattle.std.specs.List.{Contains}
-use Rattle.theory_form.specs.declared.literals.Lit.{Lit}
 use Rattle.asp_store.specs.Watch.{code}
 use Rattle.asp_store.proofs.ExamineLemmas.{HasWatcher-place, listed_first, listed_second, zero_lit}
 use Rattle.asp_store.proofs.WatchLemmas.{Grows-trans, contains_place}

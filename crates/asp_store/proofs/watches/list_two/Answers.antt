@@ -11,8 +11,10 @@ returns-clause-grows c = Grows-trans _ _ _ c.in_ok-list_moved.ensures.grows c.in
 pub returns-clause-listed : goal.returns-clause-listed
 returns-clause-listed c =
     let lits = c.args.lits.now in
-    let second = c.args.second in
-    let one = c.in_ok-list_moved.ensures.listed lits (λ e. absurd (omega (arith, e))) (contains_place lits second zero_lit c.requires.place) in
+    let i = c.args.first in
+    let j = c.args.second in
+    let low = c.requires.first_in in
+    let one = c.in_ok-list_moved.ensures.listed lits (λ e. absurd (omega (arith, e, low))) (contains_place lits j zero_lit c.requires.second_in) in
     let g = c.in_ok-list_moved-2.ensures.grows in
-    let two = c.in_ok-list_moved-2.ensures.listed lits (λ e. rw e one) (contains_place lits 0 zero_lit c.requires.some) in
-    Listed-new _ c.args.id lits second zero_lit zero_lit c.requires.some c.requires.place (g.kept (code (get_or lits 0 zero_lit)) c.args.id lits one) two
+    let two = c.in_ok-list_moved-2.ensures.listed lits (λ e. rw e one) (contains_place lits i zero_lit c.requires.first_in) in
+    Listed-new _ c.args.id lits i j zero_lit zero_lit c.requires.first_in c.requires.second_in (g.kept (code (get_or lits i zero_lit)) c.args.id lits one) two

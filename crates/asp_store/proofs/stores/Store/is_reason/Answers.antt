@@ -1,4 +1,4 @@
-use Rattle.std.proofs.Common.{sym, ◌∙◌}
+use Rattle.std.proofs.Common.{sym}
 use Rattle.asp_store.proofs.EditLemmas.{clause_gone}
 use Rattle.asp_store.proofs.ExamineLemmas.{clause_from_kept}
 use Rattle.asp_store.proofs.StoreLemmas.{none_without, reason_test}

@@ -1,6 +1,3 @@
-use Rattle.std.proofs.Common.{sym}
-use Rattle.asp_store.proofs.ExamineLemmas.{clause_from_kept}
-use Rattle.asp_store.proofs.HeadLemmas.{kept_from_clause}
 use Rattle.asp_store.proofs.RefuteLemmas.{none_stored, refuting_stored}
 use Rattle.asp_store.proofs.stores.Store.refuting.Goals as goal
 
