@@ -11,6 +11,7 @@ use Rattle.ap_bindings.specs.declared.names.NameTable.{NameTable}
 use Rattle.ap_bindings.specs.declared.binding.Bound.{Bound}
 use Rattle.ap_bindings.specs.declared.scope.Scope.{Scope}
 use Rattle.ap_pieces.specs.declared.pieces.Piece.{Piece}
+use Rattle.ap_pieces.specs.declared.pieces.Signature.{Signature}
 use Rattle.ap_bindings.specs.declared.search.Failing.{Failing}
 use Rattle.ap_pieces.specs.Bound.{Names, has_any_name, has_all, bound_within, AreUnboundOf, AreUnboundAmong, AreUnbound}
 
@@ -99,15 +100,18 @@ abbrev pub bound_inside : Scope → Names
 bound_inside scope = bound_within (names_in scope.globals.now) (marked_in scope.outside.now) (assumed_in scope)
 
 -- this is the first of the names of a piece's unbound occurrences
-abbrev pub IsFirstUnboundOf : Names → Names → Piece → Option (List ℕ) → Type 0
-IsFirstUnboundOf global outside piece first = (names : List (List ℕ)) × AreUnboundOf global outside piece names × (first ≡ first_name names)
+abbrev pub IsFirstUnboundOf : (Signature → Bool) → Names → Names → Piece → Option (List ℕ) → Type 0
+IsFirstUnboundOf definite global outside piece first =
+    (names : List (List ℕ)) × AreUnboundOf definite global outside piece names × (first ≡ first_name names)
 
-abbrev pub IsFirstAmong : Names → Names → List Piece → Option (List ℕ) → Type 0
-IsFirstAmong global outside pieces first = (names : List (List ℕ)) × AreUnboundAmong global outside pieces names × (first ≡ first_name names)
+abbrev pub IsFirstAmong : (Signature → Bool) → Names → Names → List Piece → Option (List ℕ) → Type 0
+IsFirstAmong definite global outside pieces first =
+    (names : List (List ℕ)) × AreUnboundAmong definite global outside pieces names × (first ≡ first_name names)
 
 -- this is the first of the names of the unbound occurrences of a rule or an element
-abbrev pub IsFirstUnbound : List Piece → Option (List ℕ) → Type 0
-IsFirstUnbound pieces first = (names : List (List ℕ)) × AreUnbound pieces names × (first ≡ first_name names)
+abbrev pub IsFirstUnbound : (Signature → Bool) → List Piece → Option (List ℕ) → Type 0
+IsFirstUnbound definite pieces first =
+    (names : List (List ℕ)) × AreUnbound definite pieces names × (first ≡ first_name names)
 
 -- ---- the first source with an unbound variable
 

@@ -1,17 +1,20 @@
 // The variables that a conjunction binds: its least set, by rules without negation over numbers for the names.
 ghost use Rattle.std.specs.Prelude.{◌≡◌, ◌&&◌, ◌||◌, ℕ, Bool, List, false, true, length, not, flat_map, All, OnOk, IfOk};
 ghost use Rattle.std.specs.List.{list_all};
-ghost use Rattle.ap_pieces.specs.Bound.{Names, no_names, plain_mentions, IsBound, has_any_name, has_all, has_argument, binds_side, is_closed};
+ghost use Rattle.ap_pieces.specs.Bound.{Names, no_names, binders, IsBound, has_any_name, has_all, has_argument, binds_side, is_closed};
 ghost use Rattle.definite.specs.Rules.{IsRuleOf};
 ghost use Rattle.ap_pieces.specs.declared.pieces.Mention.{Mention as MentionSpec};
 ghost use Rattle.ap_pieces.specs.declared.pieces.Side.TheVariants as side;
 ghost use Rattle.ap_pieces.specs.Pieces.{side_occurrences};
+ghost use Rattle.ap_bindings.specs.Unsafe.{definite_by};
 ghost use Rattle.ap_bindings.specs.Searches.{names_in, number_in, IsTable, Grows, also, IsListed, AreRules, has_counted, is_named, IsListedTerm, is_marked, marked_in, bound_in};
 
+use crate::aggregates::other_side;
 use crate::names::{NameSet, NameTable};
 use ap_pieces::{Mention, Occurrence, Piece, Side};
 use ap_syntax::Text;
 use definite::{Rule, least};
+use pred_graph::Safe;
 use sqlite_items::Items;
 use std::alloc::{AllocError, Global};
 
@@ -309,26 +312,31 @@ fn rules_of(
     Ok(rules)
 }
 
-/// The rules by which the plain literals of a rule bind variables.
-fn plain_rules(
+/// The rules by which the literals of a body and the guards of aggregates bind variables.
+fn outer_rules(
     alloc: Global,
+    safe: &Safe,
+    globals: &NameSet,
     given: &NameSet,
     table: &mut NameTable,
     pieces: &[Piece],
 ) -> Result<Vec<Rule>, AllocError>
     requires table { IsTable table.old }
     ensures grows { OnOk result (Grows table.old table.new) }
-    ensures rules { IfOk result (λ rules. AreRules table.new.names rules.items (λ z. list_all (is_closed (also (names_in given.now) z)) (flat_map plain_mentions pieces.now))) }
+    ensures rules { IfOk result (λ rules. AreRules table.new.names rules.items
+        (λ z. list_all (is_closed (also (names_in given.now) z)) (flat_map (binders (definite_by safe.now) (names_in globals.now)) pieces.now))) }
 {
     let mut rules = Vec::new(alloc);
     for piece in pieces {
-        push_plain(alloc, given, table, &mut rules, piece)?;
+        push_piece(alloc, safe, globals, given, table, &mut rules, piece)?;
     }
     Ok(rules)
 }
 
-fn push_plain(
+fn push_piece(
     alloc: Global,
+    safe: &Safe,
+    globals: &NameSet,
     given: &NameSet,
     table: &mut NameTable,
     rules: &mut Vec<Rule>,
@@ -336,10 +344,15 @@ fn push_plain(
 ) -> Result<(), AllocError>
     requires table { IsTable table.old }
     ensures grows { OnOk result (Grows table.old table.new) }
-    ensures rules { OnOk result ((test : Names → Bool) → AreRules table.old.names rules.old.items test → AreRules table.new.names rules.new.items (λ z. test z && list_all (is_closed (also (names_in given.now) z)) (plain_mentions piece.now))) }
+    ensures rules { OnOk result ((test : Names → Bool) → AreRules table.old.names rules.old.items test → AreRules table.new.names rules.new.items
+        (λ z. test z && list_all (is_closed (also (names_in given.now) z)) (binders (definite_by safe.now) (names_in globals.now) piece.now))) }
 {
     match piece {
         Piece::Plain(mention) => push_mention(alloc, given, table, rules, mention),
+        Piece::Value(side, inside, mentioned) => {
+            let other = other_side(alloc, safe, globals, inside, mentioned)?;
+            push_sides(alloc, given, table, rules, side, &other)
+        }
         Piece::Uses(_) => Ok(()),
         Piece::Part(_, _) => Ok(()),
     }
@@ -371,12 +384,18 @@ pub(crate) fn bound_by(
     bound_of(alloc, table, rules.as_slice())
 }
 
-/// What the plain literals of a rule bind.
-pub(crate) fn bound_outside(alloc: Global, pieces: &[Piece]) -> Result<Bound, AllocError>
-    ensures { IfOk result (λ bound. IsBound no_names (flat_map plain_mentions pieces.now) (marked_in bound)) }
+/// What the literals of a body and the guards of aggregates bind, where these are the global variables.
+pub(crate) fn bound_outside(
+    alloc: Global,
+    safe: &Safe,
+    globals: &NameSet,
+    pieces: &[Piece],
+) -> Result<Bound, AllocError>
+    ensures { IfOk result (λ bound. IsBound no_names
+        (flat_map (binders (definite_by safe.now) (names_in globals.now)) pieces.now) (marked_in bound)) }
 {
     let mut table = NameTable::new(alloc);
     let none = NameSet::new(alloc);
-    let rules = plain_rules(alloc, &none, &mut table, pieces)?;
+    let rules = outer_rules(alloc, safe, globals, &none, &mut table, pieces)?;
     bound_of(alloc, table, rules.as_slice())
 }

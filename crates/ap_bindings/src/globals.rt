@@ -63,6 +63,7 @@ fn add_piece(alloc: Global, set: &mut NameSet, piece: &Piece) -> Result<(), Allo
     match piece {
         Piece::Uses(occurrences) => add_all(alloc, set, occurrences.as_slice()),
         Piece::Plain(mention) => add_mention(alloc, set, mention),
+        Piece::Value(side, _, _) => add_side(alloc, set, side),
         Piece::Part(_, _) => Ok(()),
     }
 }

@@ -1,6 +1,7 @@
 //! Which variables of rules and of elements of preference statements are bound.
 #![tactic(auto)]
 
+mod aggregates;
 mod binding;
 mod globals;
 mod names;

@@ -12,7 +12,6 @@ use ap_syntax::Text;
 use std::alloc::{AllocError, Global};
 
 /// What is bound in a part.
-
 #[derive(Drop)]
 pub(crate) struct Scope<'a> {
     /// The global variables.
@@ -159,7 +158,8 @@ fn unbound_any(alloc: Global, scope: &Scope<'_>, other: &Side) -> Result<Option<
     }
 }
 
-fn first_unbound_side(
+/// The first occurrence in one side of `=` that is not bound.
+pub(crate) fn first_unbound_side(
     alloc: Global,
     scope: &Scope<'_>,
     side: &Side,

@@ -1,14 +1,26 @@
 // Rules whose first unbound variable is known.
-use crate::unsafe_in;
+use crate::{Failing, unsafe_in};
 use ap_syntax::{
     AggElement, Atom, BodyItem, ChoiceElement, Element, Formula, Function, Guard, HeadForm,
     Literal, Preference, Ranked, Rel, Rule, SumOp, Target, Term, Text,
 };
+use pred_graph::judge;
 use sqlite_items::{Boxed, Items};
 use std::alloc::{AllocError, Global};
 use std::test::Fail;
 
-/// A part of a rule. A term is a variable, `_`, or a variable with `+1` behind it; anything else is a constant.
+/// Where the guard of an aggregate stands, and what stands with it.
+#[derive(Clone, Copy)]
+enum Place {
+    Left,
+    Right,
+    /// On the left, with `<` in place of `=`.
+    Less,
+    /// On the left, behind `not`.
+    Negated,
+}
+
+/// A part of a rule. Each atom is one of `p`. A term is a variable, `_`, or a variable with `+1` behind it; anything else is a constant.
 #[derive(Clone, Copy)]
 enum Part<'a> {
     Head(&'a [&'a str]),
@@ -18,7 +30,7 @@ enum Part<'a> {
     Equal(&'a str, &'a str),
     Less(&'a str, &'a str),
     All(&'a [&'a str], &'a [&'a str]),
-    Count(&'a str, &'a [&'a str], &'a [&'a str]),
+    Count(Place, &'a str, &'a [&'a str], &'a [&'a str]),
 }
 
 fn term(alloc: Global, text: &str) -> Result<Term, AllocError> {
@@ -77,27 +89,44 @@ fn choice(alloc: Global, texts: &[&str], within: &[&str]) -> Result<HeadForm, Al
     })
 }
 
+fn guard(alloc: Global, place: Place, text: &str) -> Result<Boxed<Guard>, AllocError> {
+    let rel = match place {
+        Place::Less => Rel::Lt,
+        _ => Rel::Eq,
+    };
+    let term = term(alloc, text)?;
+    Boxed::new(alloc, Guard { rel, term })
+}
+
+fn element(alloc: Global, texts: &[&str], within: &[&str]) -> Result<AggElement, AllocError> {
+    Ok(AggElement {
+        terms: terms(alloc, texts)?,
+        condition: condition(alloc, within)?,
+    })
+}
+
 fn count(
     alloc: Global,
-    left: &str,
+    place: Place,
+    text: &str,
     texts: &[&str],
     within: &[&str],
 ) -> Result<BodyItem, AllocError> {
     let mut elements = Items::new(alloc);
-    elements.push(AggElement {
-        terms: terms(alloc, texts)?,
-        condition: condition(alloc, within)?,
-    })?;
-    let guard = Guard {
-        rel: Rel::Eq,
-        term: term(alloc, left)?,
+    elements.push(element(alloc, texts, within)?)?;
+    let elements = Boxed::new(alloc, elements)?;
+    let guard = Some(guard(alloc, place, text)?);
+    let (negated, left, right) = match place {
+        Place::Left | Place::Less => (false, guard, None),
+        Place::Right => (false, None, guard),
+        Place::Negated => (true, guard, None),
     };
     Ok(BodyItem::Agg {
-        negated: false,
-        left: Some(Boxed::new(alloc, guard)?),
+        negated,
+        left,
         function: Function::Count,
-        elements: Boxed::new(alloc, elements)?,
-        right: None,
+        elements,
+        right,
     })
 }
 
@@ -122,7 +151,7 @@ fn add(alloc: Global, rule: &mut Rule, part: Part<'_>) -> Result<(), AllocError>
                 condition: condition(alloc, within)?,
             }
         }
-        Part::Count(left, texts, within) => count(alloc, left, texts, within)?,
+        Part::Count(place, guard, texts, within) => count(alloc, place, guard, texts, within)?,
     };
     rule.body.push(item)
 }
@@ -140,11 +169,22 @@ fn rule(alloc: Global, at: u32, parts: &[Part<'_>]) -> Result<Rule, AllocError> 
     Ok(rule)
 }
 
+/// The first unbound variable of a rule that stands alone, by its own predicates.
+fn first_unbound_of(
+    alloc: Global,
+    parts: &[Part<'_>],
+) -> Result<Option<Failing<Text>>, AllocError> {
+    let mut rules = Vec::new(alloc);
+    rules.push(rule(alloc, 0, parts)?)?;
+    let safe = judge(alloc, rules.as_slice(), true)?;
+    unsafe_in(alloc, rules.as_slice(), &[], &safe)
+}
+
 /// The first unbound variable of each rule, or `safe`.
 #[test]
 fn first_unbound_variables(rt: HostRuntime) -> Result<(), Fail> {
     let alloc = rt.alloc();
-    let table: [(&[Part<'_>], &str); 19] = [
+    let table: [(&[Part<'_>], &str); 18] = [
         (&[Part::Head(&["X"]), Part::Not(&["X"])], "X"),
         (&[Part::Head(&["X"]), Part::Pos(&["Y", "X"])], "safe"),
         (&[Part::Not(&["_"])], "_"),
@@ -164,9 +204,11 @@ fn first_unbound_variables(rt: HostRuntime) -> Result<(), Fail> {
         (&[Part::Pos(&["X"]), Part::Equal("X", "Y+1")], "Y"),
         (&[Part::Pos(&["X+1"])], "X"),
         (&[Part::Pos(&["X"]), Part::Less("X", "Y")], "Y"),
-        (&[Part::Count("N", &["X"], &["X"])], "N"),
         (
-            &[Part::Pos(&["N"]), Part::Count("N", &["X", "Y"], &["X"])],
+            &[
+                Part::Pos(&["N"]),
+                Part::Count(Place::Less, "N", &["X", "Y"], &["X"]),
+            ],
             "Y",
         ),
         (&[Part::All(&["X"], &["X"])], "safe"),
@@ -179,10 +221,60 @@ fn first_unbound_variables(rt: HostRuntime) -> Result<(), Fail> {
         (&[Part::Choice(&["X", "Y"], &["X"]), Part::Not(&["Y"])], "Y"),
     ];
     for (parts, expected) in table {
-        let mut rules = Vec::new(alloc);
-        rules.push(rule(alloc, 0, parts)?)?;
-        match unsafe_in(alloc, rules.as_slice(), &[])? {
-            Some(failing) => assert_eq!(rt; failing.what.as_str(), expected),
+        match first_unbound_of(alloc, parts)? {
+            Some(found) => assert_eq!(rt; found.what.as_str(), expected),
+            None => assert_eq!(rt; "safe", expected),
+        }
+    }
+    Ok(())
+}
+
+/// The first unbound variable of each rule with aggregates, or `safe`.
+#[test]
+fn guards_of_aggregates(rt: HostRuntime) -> Result<(), Fail> {
+    let alloc = rt.alloc();
+    let table: [(&[Part<'_>], &str); 13] = [
+        (&[Part::Count(Place::Left, "N", &["X"], &["X"])], "safe"),
+        (&[Part::Count(Place::Right, "N", &["X"], &["X"])], "safe"),
+        (&[Part::Count(Place::Less, "N", &["X"], &["X"])], "N"),
+        (&[Part::Count(Place::Negated, "N", &["X"], &["X"])], "N"),
+        (&[Part::Count(Place::Left, "N+1", &["X"], &["X"])], "N"),
+        (&[Part::Count(Place::Left, "_", &["X"], &["X"])], "safe"),
+        (&[Part::Count(Place::Less, "_", &["X"], &["X"])], "_"),
+        (&[Part::Count(Place::Left, "N", &["X", "Y"], &["X"])], "Y"),
+        (
+            &[
+                Part::Choice(&["X"], &["X"]),
+                Part::Count(Place::Left, "N", &["X"], &["X"]),
+            ],
+            "N",
+        ),
+        (
+            &[
+                Part::Choice(&["X", "X"], &["X"]),
+                Part::Count(Place::Left, "N", &["X"], &["X"]),
+            ],
+            "safe",
+        ),
+        (&[Part::Count(Place::Left, "N", &["X"], &["X", "N"])], "N"),
+        (
+            &[
+                Part::Count(Place::Left, "M", &["X"], &["X", "N"]),
+                Part::Count(Place::Left, "N", &["X"], &["X"]),
+            ],
+            "safe",
+        ),
+        (
+            &[
+                Part::Count(Place::Left, "M", &["X"], &["X", "N"]),
+                Part::Count(Place::Left, "N", &["X"], &["X", "M"]),
+            ],
+            "M",
+        ),
+    ];
+    for (parts, expected) in table {
+        match first_unbound_of(alloc, parts)? {
+            Some(found) => assert_eq!(rt; found.what.as_str(), expected),
             None => assert_eq!(rt; "safe", expected),
         }
     }
@@ -197,7 +289,8 @@ fn first_in_the_texts(rt: HostRuntime) -> Result<(), Fail> {
     rules.push(rule(alloc, 40, &[Part::Head(&["X"])])?)?;
     rules.push(rule(alloc, 9, &[Part::Pos(&["Z"])])?)?;
     rules.push(rule(alloc, 20, &[Part::Head(&["Y"])])?)?;
-    match unsafe_in(alloc, rules.as_slice(), &[])? {
+    let safe = judge(alloc, rules.as_slice(), true)?;
+    match unsafe_in(alloc, rules.as_slice(), &[], &safe)? {
         Some(failing) => {
             assert_eq!(rt; failing.at, 20);
             assert_eq!(rt; failing.what.as_str(), "Y");
@@ -242,7 +335,8 @@ fn elements_of_statements(rt: HostRuntime) -> Result<(), Fail> {
     for (texts, within, expected) in table {
         let mut statements = Vec::new(alloc);
         statements.push(statement(alloc, texts, within)?)?;
-        match unsafe_in(alloc, &[], statements.as_slice())? {
+        let safe = judge(alloc, &[], true)?;
+        match unsafe_in(alloc, &[], statements.as_slice(), &safe)? {
             Some(failing) => {
                 assert_eq!(rt; failing.at, 22);
                 assert_eq!(rt; failing.what.as_str(), expected);

@@ -1,6 +1,6 @@
 -- Which variables are bound. A set of variables is given by its test on their names. `_` is a variable of its own at each
 -- place: no set of names has it, and no other place binds it.
-use Rattle.std.specs.Prelude.{◌≡◌, ℕ, Bool, true, false, not, ◌&&◌, ◌||◌, List, [], ◌∷◌, ◌++◌, flat_map, filter_map, Option, Some, None, IsTrue, if◌then◌else◌}
+use Rattle.std.specs.Prelude.{◌≡◌, ℕ, Bool, true, false, not, ◌&&◌, ◌||◌, List, [], ◌∷◌, ◌++◌, flat_map, filter, filter_map, Option, Some, None, IsTrue, if◌then◌else◌}
 use Rattle.std.specs.List.{list_all, list_any}
 use Rattle.std.specs.Str.{bytes_eq}
 use Rattle.ap_pieces.specs.declared.variables.Occurrence.{Occurrence}
@@ -9,7 +9,8 @@ use Rattle.ap_pieces.specs.declared.pieces.Side.TheVariants.{Variable, Any, Comp
 use Rattle.ap_pieces.specs.declared.pieces.Mention.{Mention}
 use Rattle.ap_pieces.specs.declared.pieces.Mention.TheVariants.{Atom, Equal, Other}
 use Rattle.ap_pieces.specs.declared.pieces.Piece.{Piece}
-use Rattle.ap_pieces.specs.declared.pieces.Piece.TheVariants.{Uses, Plain, Part}
+use Rattle.ap_pieces.specs.declared.pieces.Piece.TheVariants.{Uses, Plain, Value, Part}
+use Rattle.ap_pieces.specs.declared.pieces.Signature.{Signature}
 use Rattle.ap_pieces.specs.Pieces.{side_occurrences, mention_occurrences, Source}
 
 abbrev pub Names : Type 0
@@ -33,7 +34,7 @@ is_among names o = has_name names o.name
 abbrev pub has_all : Names → List Occurrence → Bool
 has_all names os = list_all (is_among names) os
 
--- ---- the two ways to be bound
+-- ---- the ways to be bound within a conjunction
 
 abbrev pub has_any_name : Names → Option (List ℕ) → Bool
 has_any_name names None = true
@@ -68,6 +69,7 @@ pub record IsBound (given : Names) (conjunction : List Mention) (bound : Names) 
 abbrev pub global_occurrences : Piece → List Occurrence
 global_occurrences (Uses os) = os
 global_occurrences (Plain mention) = mention_occurrences mention
+global_occurrences (Value side inside mentioned) = side_occurrences side
 global_occurrences (Part os condition) = []
 
 abbrev pub is_name_of : List ℕ → Occurrence → Bool
@@ -77,11 +79,18 @@ is_name_of name o = is_among (bytes_eq name) o
 abbrev pub globals : List Piece → Names
 globals pieces name = list_any (is_name_of name) (flat_map global_occurrences pieces)
 
--- the literals of the body that bind global variables
-abbrev pub plain_mentions : Piece → List Mention
-plain_mentions (Uses os) = []
-plain_mentions (Plain mention) = mention ∷ []
-plain_mentions (Part os condition) = []
+-- An aggregate over definite predicates stands to its guard with `=` as one side of a comparison to the other: it has the global
+-- variables between its braces. Over other predicates it binds nothing, as `_`.
+abbrev pub aggregate_side : (Signature → Bool) → Names → List Occurrence → List Signature → Side
+aggregate_side definite global inside mentioned =
+    if list_all definite mentioned then Compound (filter (is_among global) inside) else Any
+
+-- what binds global variables: literals of the body, and aggregates by their guards
+abbrev pub binders : (Signature → Bool) → Names → Piece → List Mention
+binders definite global (Uses os) = []
+binders definite global (Plain mention) = mention ∷ []
+binders definite global (Value side inside mentioned) = Equal side (aggregate_side definite global inside mentioned) ∷ []
+binders definite global (Part os condition) = []
 
 -- ---- unbound occurrences: those whose variable is not bound, by its name, in the order of the text
 
@@ -123,28 +132,31 @@ abbrev pub unbound_part : Names → Names → List Occurrence → List Mention �
 unbound_part assumed bound os condition = unbound bound os ++ flat_map (unbound_mention assumed bound) condition
 
 -- these are the names of the unbound occurrences of a piece
-abbrev pub AreUnboundOf : Names → Names → Piece → List (List ℕ) → Type 0
-AreUnboundOf global outside (Uses os) names = names ≡ unbound outside os
-AreUnboundOf global outside (Plain mention) names = names ≡ unbound_mention outside outside mention
-AreUnboundOf global outside (Part os condition) names =
-    (within : Names) × IsBound global condition within × (names ≡ unbound_part within (bound_within global outside within) os condition)
+abbrev pub AreUnboundOf : (Signature → Bool) → Names → Names → Piece → List (List ℕ) → Type 0
+AreUnboundOf definite global outside (Uses os) names = names ≡ unbound outside os
+AreUnboundOf definite global outside (Plain mention) names = names ≡ unbound_mention outside outside mention
+AreUnboundOf definite global outside (Value side inside mentioned) names =
+    names ≡ unbound_side outside outside side (aggregate_side definite global inside mentioned)
+AreUnboundOf definite global outside (Part os condition) names = (within : Names) × IsBound global condition within
+    × (names ≡ unbound_part within (bound_within global outside within) os condition)
 
-abbrev pub AreUnboundAmong : Names → Names → List Piece → List (List ℕ) → Type 0
-AreUnboundAmong global outside [] names = names ≡ []
-AreUnboundAmong global outside (piece ∷ pieces) names =
-    (here : List (List ℕ)) × (rest : List (List ℕ)) × AreUnboundOf global outside piece here × AreUnboundAmong global outside pieces rest × (names ≡ here ++ rest)
+abbrev pub AreUnboundAmong : (Signature → Bool) → Names → Names → List Piece → List (List ℕ) → Type 0
+AreUnboundAmong definite global outside [] names = names ≡ []
+AreUnboundAmong definite global outside (piece ∷ pieces) names = (here : List (List ℕ)) × (rest : List (List ℕ))
+    × AreUnboundOf definite global outside piece here × AreUnboundAmong definite global outside pieces rest × (names ≡ here ++ rest)
 
--- these are the names of the unbound occurrences of a rule or an element
-abbrev pub AreUnbound : List Piece → List (List ℕ) → Type 0
-AreUnbound pieces names = (outside : Names) × IsBound no_names (flat_map plain_mentions pieces) outside × AreUnboundAmong (globals pieces) outside pieces names
+-- these are the names of the unbound occurrences of a rule or an element, where `definite` tells the definite predicates
+abbrev pub AreUnbound : (Signature → Bool) → List Piece → List (List ℕ) → Type 0
+AreUnbound definite pieces names = (outside : Names) × IsBound no_names (flat_map (binders definite (globals pieces)) pieces) outside
+    × AreUnboundAmong definite (globals pieces) outside pieces names
 
 -- all occurrences in a rule or an element are bound: there is the least set of its bound variables, and none is outside of it
-abbrev pub IsAllBound : Source → Type 0
-IsAllBound source = AreUnbound source.pieces []
+abbrev pub IsAllBound : (Signature → Bool) → Source → Type 0
+IsAllBound definite source = AreUnbound definite source.pieces []
 
 -- a rule or an element has an unbound variable, and this is the first
-abbrev pub IsUnsafe : Source → List ℕ → Type 0
-IsUnsafe source variable = (others : List (List ℕ)) × AreUnbound source.pieces (variable ∷ others)
+abbrev pub IsUnsafe : (Signature → Bool) → Source → List ℕ → Type 0
+IsUnsafe definite source variable = (others : List (List ℕ)) × AreUnbound definite source.pieces (variable ∷ others)
 
-abbrev pub HasUnbound : Source → Type 0
-HasUnbound source = (variable : List ℕ) × IsUnsafe source variable
+abbrev pub HasUnbound : (Signature → Bool) → Source → Type 0
+HasUnbound definite source = (variable : List ℕ) × IsUnsafe definite source variable

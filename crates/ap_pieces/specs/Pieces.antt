@@ -1,7 +1,8 @@
 -- Rules and elements as lists of pieces, in the order of the text: what they say of variables.
-use Rattle.std.specs.Prelude.{ℕ, List, [], ◌∷◌, ◌++◌, map, flat_map, Option, Some, None, true}
+use Rattle.std.specs.Prelude.{ℕ, Bool, List, [], ◌∷◌, ◌++◌, map, flat_map, length, Option, Some, None, true, false}
 use Rattle.ap_syntax.specs.declared.terms.Term.{Term, out-Term}
 use Rattle.ap_syntax.specs.declared.terms.Term.TheOpen.{Term-F}
+use Rattle.ap_syntax.specs.declared.terms.Atom.{Atom}
 use Rattle.ap_syntax.specs.declared.terms.Rel.{Rel}
 use Rattle.ap_syntax.specs.declared.terms.Rel.TheVariants.{Eq}
 use Rattle.ap_syntax.specs.declared.terms.Literal.{Literal}
@@ -25,9 +26,10 @@ use Rattle.ap_pieces.specs.declared.variables.Occurrence.{Occurrence}
 use Rattle.ap_pieces.specs.declared.pieces.Side.{Side}
 use Rattle.ap_pieces.specs.declared.pieces.Side.TheVariants.{Variable, Any, Compound}
 use Rattle.ap_pieces.specs.declared.pieces.Mention.{Mention}
-use Rattle.ap_pieces.specs.declared.pieces.Mention.TheVariants.{Atom, Equal, Other}
+use Rattle.ap_pieces.specs.declared.pieces.Mention.TheVariants as mentions
+use Rattle.ap_pieces.specs.declared.pieces.Signature.{Signature}
 use Rattle.ap_pieces.specs.declared.pieces.Piece.{Piece}
-use Rattle.ap_pieces.specs.declared.pieces.Piece.TheVariants.{Uses, Plain, Part}
+use Rattle.ap_pieces.specs.declared.pieces.Piece.TheVariants.{Uses, Plain, Value, Part}
 use Rattle.ap_pieces.specs.Variables.{occurrences, occurrences_of, joined}
 
 -- ---- literals
@@ -47,24 +49,52 @@ side_occurrences Any = record { name = None; is_argument = true } ∷ []
 side_occurrences (Compound os) = os
 
 abbrev pub comparison_of : Term → Rel → Term → Mention
-comparison_of left Eq right = Equal (side_of left) (side_of right)
-comparison_of left _ right = Other (occurrences left ++ occurrences right)
+comparison_of left Eq right = mentions.Equal (side_of left) (side_of right)
+comparison_of left _ right = mentions.Other (occurrences left ++ occurrences right)
 
 -- what a literal says of variables: positive atoms and `=` may bind some, and any other literal uses them
 abbrev pub mention_of : Literal → Mention
-mention_of (Pos atom) = Atom (occurrences_of atom.terms)
-mention_of (Not atom) = Other (occurrences_of atom.terms)
+mention_of (Pos atom) = mentions.Atom (occurrences_of atom.terms)
+mention_of (Not atom) = mentions.Other (occurrences_of atom.terms)
 mention_of (Compare left rel right) = comparison_of left rel right
 
 abbrev pub mention_occurrences : Mention → List Occurrence
-mention_occurrences (Atom os) = os
-mention_occurrences (Equal left right) = side_occurrences left ++ side_occurrences right
-mention_occurrences (Other os) = os
+mention_occurrences (mentions.Atom os) = os
+mention_occurrences (mentions.Equal left right) = side_occurrences left ++ side_occurrences right
+mention_occurrences (mentions.Other os) = os
 
 abbrev pub literal_occurrences : Literal → List Occurrence
 literal_occurrences (Pos atom) = occurrences_of atom.terms
 literal_occurrences (Not atom) = occurrences_of atom.terms
 literal_occurrences (Compare left rel right) = occurrences left ++ occurrences right
+
+-- ---- aggregates
+
+-- the predicate of an atom
+abbrev pub signature_of : Atom → Signature
+signature_of atom = record { name = atom.name; arity = length atom.terms }
+
+abbrev pub literal_signatures : Literal → List Signature
+literal_signatures (Pos atom) = signature_of atom ∷ []
+literal_signatures (Not atom) = signature_of atom ∷ []
+literal_signatures (Compare left rel right) = []
+
+-- the predicates that an element between braces mentions
+abbrev pub tuple_signatures : AggElement → List Signature
+tuple_signatures element = flat_map literal_signatures element.condition
+
+-- the occurrences in an element between braces
+abbrev pub tuple_occurrences : AggElement → List Occurrence
+tuple_occurrences element = occurrences_of element.terms ++ flat_map literal_occurrences element.condition
+
+-- a guard with `=` of an aggregate that is not negated is given a value by what stands between the braces; any other guard has its own
+abbrev pub value_piece : Bool → Rel → Term → List AggElement → Piece
+value_piece false Eq term elements = Value (side_of term) (flat_map tuple_occurrences elements) (flat_map tuple_signatures elements)
+value_piece _ _ term elements = Uses (occurrences term)
+
+abbrev pub value_pieces : Bool → Option Guard → List AggElement → List Piece
+value_pieces negated None elements = []
+value_pieces negated (Some guard) elements = value_piece negated guard.rel guard.term elements ∷ []
 
 -- ---- rules
 
@@ -89,7 +119,8 @@ head_pieces Nothing = []
 abbrev pub item_pieces : BodyItem → List Piece
 item_pieces (items.Plain literal) = Plain (mention_of literal) ∷ []
 item_pieces (items.All at literal condition) = Part (literal_occurrences literal) (map mention_of condition) ∷ []
-item_pieces (items.Agg negated left function elements right) = guard_pieces left ++ map tuple_piece elements ++ guard_pieces right
+item_pieces (items.Agg negated left function elements right) =
+    value_pieces negated left elements ++ map tuple_piece elements ++ value_pieces negated right elements
 
 abbrev pub rule_pieces : Rule → List Piece
 rule_pieces rule = head_pieces rule.head ++ flat_map item_pieces rule.body
@@ -98,6 +129,7 @@ rule_pieces rule = head_pieces rule.head ++ flat_map item_pieces rule.body
 abbrev pub piece_occurrences : Piece → List Occurrence
 piece_occurrences (Uses os) = os
 piece_occurrences (Plain mention) = mention_occurrences mention
+piece_occurrences (Value side inside mentioned) = side_occurrences side
 piece_occurrences (Part os condition) = os ++ flat_map mention_occurrences condition
 
 -- ---- elements of statements

@@ -1,11 +1,13 @@
 // What rules and elements say of variables, in the order of the text.
-ghost use Rattle.std.specs.Prelude.{◌≡◌, ◌++◌, ◌∷◌, [], map, OnOk, IfOk};
+ghost use Rattle.std.specs.Prelude.{◌≡◌, ◌++◌, ◌∷◌, [], false, map, OnOk, IfOk};
+ghost use Rattle.ap_syntax.specs.declared.terms.Rel.TheVariants.{Eq};
 ghost use Rattle.ap_pieces.specs.declared.pieces.Mention.TheVariants as mention;
 ghost use Rattle.ap_pieces.specs.declared.pieces.Piece.TheVariants as piece;
 ghost use Rattle.ap_pieces.specs.Variables.{occurrences, occurrences_of};
-ghost use Rattle.ap_pieces.specs.Pieces.{side_of, comparison_of, mention_of, literal_occurrences, guard_pieces, choice_piece, tuple_piece, head_pieces, item_pieces, rule_pieces};
+ghost use Rattle.ap_pieces.specs.Pieces.{side_of, comparison_of, mention_of, literal_occurrences, value_piece, value_pieces, guard_pieces, choice_piece, tuple_piece, head_pieces, item_pieces, rule_pieces};
 
-use crate::variables::{Occurrence, all_occurrences, push_one, term_occurrences};
+use crate::aggregates::{occurrences_between, signatures_in};
+use crate::variables::{Occurrence, all_occurrences, push_all, push_one, term_occurrences};
 use ap_syntax::{
     AggElement, BodyItem, ChoiceElement, Guard, HeadForm, Literal, Rel, Rule, Term, Text,
 };
@@ -34,13 +36,25 @@ pub enum Mention {
     Other(Items<Occurrence>),
 }
 
+/// A predicate that an aggregate mentions.
+#[derive(Debug, Drop)]
+pub struct Signature {
+    /// Its name.
+    pub name: Text,
+    /// How many arguments its atoms have.
+    pub arity: usize,
+}
+
 /// A piece of a rule or of an element of a preference statement.
 #[derive(Debug, Drop)]
 pub enum Piece {
-    /// The head atom, or a guard.
+    /// The head atom, or a guard that has its own value.
     Uses(Items<Occurrence>),
     /// A literal of the body.
     Plain(Mention),
+    /// The term of a guard with `=` of an aggregate that is not negated, the variables between the braces, and the predicates
+    /// that are mentioned there.
+    Value(Side, Items<Occurrence>, Items<Signature>),
     /// An element between braces, a conditional literal or an element of a statement, with its own condition.
     Part(Items<Occurrence>, Items<Mention>),
 }
@@ -109,14 +123,30 @@ pub(crate) fn read_mentions(
     Ok(found)
 }
 
+/// Adds the occurrences in a literal.
+pub(crate) fn push_literal(
+    alloc: Global,
+    found: &mut Items<Occurrence>,
+    literal: &Literal,
+) -> Result<(), AllocError>
+    ensures { OnOk result (found.new ≡ found.old ++ literal_occurrences literal.now) }
+{
+    match literal {
+        Literal::Pos(atom) => push_all(alloc, found, atom.terms.as_slice()),
+        Literal::Not(atom) => push_all(alloc, found, atom.terms.as_slice()),
+        Literal::Compare(left, _, right) => {
+            push_one(alloc, found, left.get())?;
+            push_one(alloc, found, right.get())
+        }
+    }
+}
+
 fn occurrences_in(alloc: Global, literal: &Literal) -> Result<Items<Occurrence>, AllocError>
     ensures { IfOk result (λ os. os ≡ literal_occurrences literal.now) }
 {
-    match literal {
-        Literal::Pos(atom) => all_occurrences(alloc, atom.terms.as_slice()),
-        Literal::Not(atom) => all_occurrences(alloc, atom.terms.as_slice()),
-        Literal::Compare(left, _, right) => both_occurrences(alloc, left.get(), right.get()),
-    }
+    let mut found = Items::new(alloc);
+    push_literal(alloc, &mut found, literal)?;
+    Ok(found)
 }
 
 // ---- rules
@@ -193,18 +223,64 @@ fn push_choice(
     push_guard(alloc, pieces, right)
 }
 
+/// Adds the guard of an aggregate that is given a value by what stands between the braces.
+fn push_given(
+    alloc: Global,
+    pieces: &mut Items<Piece>,
+    term: &Term,
+    elements: &[AggElement],
+) -> Result<(), AllocError>
+    ensures { OnOk result (pieces.new ≡ pieces.old ++ value_piece false Eq term.now elements.now ∷ []) }
+{
+    let side = read_side(alloc, term)?;
+    let inside = occurrences_between(alloc, elements)?;
+    pieces.push(Piece::Value(side, inside, signatures_in(alloc, elements)?))
+}
+
+fn push_value(
+    alloc: Global,
+    pieces: &mut Items<Piece>,
+    negated: bool,
+    guard: &Guard,
+    elements: &[AggElement],
+) -> Result<(), AllocError>
+    ensures { OnOk result (pieces.new ≡ pieces.old ++ value_piece negated guard.now.rel guard.now.term elements.now ∷ []) }
+{
+    match (negated, guard.rel) {
+        (false, Rel::Eq) => push_given(alloc, pieces, &guard.term, elements),
+        _ => pieces.push(Piece::Uses(term_occurrences(alloc, &guard.term)?)),
+    }
+}
+
+fn push_values(
+    alloc: Global,
+    pieces: &mut Items<Piece>,
+    negated: bool,
+    guard: &Option<Boxed<Guard>>,
+    elements: &[AggElement],
+) -> Result<(), AllocError>
+    ensures { OnOk result (pieces.new ≡ pieces.old ++ value_pieces negated guard.now elements.now) }
+{
+    match guard {
+        None => Ok(()),
+        Some(guard) => push_value(alloc, pieces, negated, guard.get(), elements),
+    }
+}
+
 fn push_aggregate(
     alloc: Global,
     pieces: &mut Items<Piece>,
+    negated: bool,
     left: &Option<Boxed<Guard>>,
     elements: &[AggElement],
     right: &Option<Boxed<Guard>>,
 ) -> Result<(), AllocError>
-    ensures { OnOk result (pieces.new ≡ pieces.old ++ guard_pieces left.now ++ map tuple_piece elements.now ++ guard_pieces right.now) }
+    ensures { OnOk result (pieces.new ≡ pieces.old ++ value_pieces negated left.now elements.now
+        ++ map tuple_piece elements.now ++ value_pieces negated right.now elements.now) }
 {
-    push_guard(alloc, pieces, left)?;
+    push_values(alloc, pieces, negated, left, elements)?;
     push_tuples(alloc, pieces, elements)?;
-    push_guard(alloc, pieces, right)
+    push_values(alloc, pieces, negated, right, elements)
 }
 
 fn push_head(alloc: Global, pieces: &mut Items<Piece>, head: &HeadForm) -> Result<(), AllocError>
@@ -244,12 +320,19 @@ fn push_item(alloc: Global, pieces: &mut Items<Piece>, item: &BodyItem) -> Resul
             condition,
         } => push_conditional(alloc, pieces, literal.get(), condition.as_slice()),
         BodyItem::Agg {
-            negated: _,
+            negated,
             left,
             function: _,
             elements,
             right,
-        } => { push_aggregate(alloc, pieces, left, elements.get().as_slice(), right) }
+        } => push_aggregate(
+            alloc,
+            pieces,
+            *negated,
+            left,
+            elements.get().as_slice(),
+            right,
+        ),
     }
 }
 

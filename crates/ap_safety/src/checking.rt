@@ -1,4 +1,5 @@
 // The static conditions.
+ghost use Rattle.std.specs.Prelude.{◌≡◌, IfOk};
 ghost use Rattle.ap_bindings.specs.Texts.{NoneFails};
 ghost use Rattle.ap_safety.specs.Conditions.{HasAggregateFault};
 ghost use Rattle.ap_safety.specs.Judged.{IsRecursionAnswer};
@@ -18,7 +19,8 @@ use std::alloc::Global;
 fn check_heads(alloc: Global, rules: &[Rule], safe: Safe) -> Result<Safe, SafetyFault>
     requires known { IsSafe rules.now safe }
     requires aggregates { NoneFails (HasAggregateFault safe.base rules.now) rules.now }
-    ensures { IsRecursionAnswer rules.now safe.base result }
+    ensures answer { IsRecursionAnswer rules.now safe.base result }
+    ensures same { IfOk result (λ told. told ≡ safe) }
 {
     let Ok(recursion) = first_fault(alloc, RuleFault::Recursion, &safe, rules) else {
         return Err(SafetyFault::Memory);
@@ -33,12 +35,11 @@ fn check_heads(alloc: Global, rules: &[Rule], safe: Safe) -> Result<Safe, Safety
 }
 
 /// Checks that no rule goes through its own head in a way that its program may not.
-fn check_recursion(alloc: Global, rules: &[Rule], base: bool) -> Result<Safe, SafetyFault>
-    ensures { IsRecursionAnswer rules.now base result }
+fn check_recursion(alloc: Global, rules: &[Rule], safe: Safe) -> Result<Safe, SafetyFault>
+    requires known { IsSafe rules.now safe }
+    ensures answer { IsRecursionAnswer rules.now safe.base result }
+    ensures same { IfOk result (λ told. told ≡ safe) }
 {
-    let Ok(safe) = judge(alloc, rules, base) else {
-        return Err(SafetyFault::Memory);
-    };
     let Ok(aggregate) = first_fault(alloc, RuleFault::Aggregate, &safe, rules) else {
         return Err(SafetyFault::Memory);
     };
@@ -53,7 +54,8 @@ fn check_recursion(alloc: Global, rules: &[Rule], base: bool) -> Result<Safe, Sa
 
 /// Checks that all variables are bound, and that no rule goes through its own head in a way that its program may not.
 /// `base` tells whether the rules are those of a base program or those of a type's program. The faults come in this order, each
-/// of them for the first rule or element in the texts: `Unsafe`, `AggregateRecursion`, `Recursion`. `Memory` may come at any time.
+/// of them for the first rule or element in the texts: `Unsafe`, `AggregateRecursion`, `Recursion`. `Memory` may come at any time;
+/// it is told too where the rules have an atom of 2^32 arguments or more.
 pub fn check(
     alloc: Global,
     rules: &[Rule],
@@ -62,7 +64,10 @@ pub fn check(
 ) -> Result<Safe, SafetyFault>
     ensures { IsCheckAnswer rules.now elements.now base result }
 {
-    let Ok(unbound) = unsafe_in(alloc, rules, elements) else {
+    let Ok(safe) = judge(alloc, rules, base) else {
+        return Err(SafetyFault::Memory);
+    };
+    let Ok(unbound) = unsafe_in(alloc, rules, elements, &safe) else {
         return Err(SafetyFault::Memory);
     };
     match unbound {
@@ -71,7 +76,7 @@ pub fn check(
             at: found.at,
             variable: found.what,
         }),
-        None => check_recursion(alloc, rules, base),
+        None => check_recursion(alloc, rules, safe),
     }
 }
 

@@ -67,6 +67,7 @@ fn piece_has_variable(piece: &Piece) -> bool
     match piece {
         Piece::Uses(occurrences) => is_some(occurrences.as_slice()),
         Piece::Plain(mention) => mention_has_variable(mention),
+        Piece::Value(side, _, _) => side_has_variable(side),
         Piece::Part(occurrences, condition) => {
             is_some(occurrences.as_slice()) || mentions_have_variable(condition.as_slice())
         }

@@ -7,7 +7,8 @@ use thiserror::Error;
 #[derive(Debug, Drop, Error)]
 pub enum SafetyFault {
     /// A variable of a rule or of an element of a preference statement is not bound: neither an argument of a positive literal of
-    /// the body, nor one side of `=` whose other side has bound variables alone.
+    /// the body, nor one side of `=` whose other side has bound variables alone, nor the guard with `=` of an aggregate that is not
+    /// negated, mentions definite predicates alone and has bound global variables alone between its braces.
     #[error("a variable is not bound")]
     Unsafe {
         /// The number of its file, from 1. 0 where the text is of no file.

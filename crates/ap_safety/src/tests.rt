@@ -289,7 +289,10 @@ fn better(alloc: Global) -> Result<Vec<Rule>, AllocError> {
 fn a_type_through_its_own_negation(rt: HostRuntime) -> Result<(), Fail> {
     let alloc = rt.alloc();
     let rules = better(alloc)?;
-    assert_eq!(rt; answer(alloc, rules.as_slice(), &[], false)?, Want::Recursion(0));
+    assert_eq!(rt;
+        answer(alloc, rules.as_slice(), &[], false)?,
+        Want::Recursion(0)
+    );
     Ok(())
 }
 
@@ -372,6 +375,73 @@ fn an_aggregate_through_its_head(rt: HostRuntime) -> Result<(), Fail> {
         (false, Want::Recursion(0)),
     ] {
         assert_eq!(rt; answer(alloc, rules.as_slice(), &[], base)?, want);
+    }
+    Ok(())
+}
+
+/// `N`
+fn number(alloc: Global) -> Result<Term, AllocError> {
+    Ok(Term::Var(Text::new(alloc, "N")?))
+}
+
+/// `1 : name`
+fn one_where(alloc: Global, name: &str) -> Result<AggElement, AllocError> {
+    let terms = only(alloc, Term::Int(1))?;
+    let condition = only(alloc, positive(alloc, name, false)?)?;
+    Ok(AggElement { terms, condition })
+}
+
+/// `N = #count{1 : name}`
+fn count_assigned(alloc: Global, name: &str) -> Result<BodyItem, AllocError> {
+    let term = number(alloc)?;
+    let guard = Boxed::new(alloc, Guard { rel: Rel::Eq, term })?;
+    let elements = only(alloc, one_where(alloc, name)?)?;
+    Ok(BodyItem::Agg {
+        negated: false,
+        left: Some(guard),
+        function: Function::Count,
+        elements: Boxed::new(alloc, elements)?,
+        right: None,
+    })
+}
+
+/// `n(N) :- N = #count{1 : a}.`
+fn assigned(alloc: Global) -> Result<Rule, AllocError> {
+    let head = with_argument(alloc, "n", number(alloc)?)?;
+    rule(alloc, 5, head, count_assigned(alloc, "a")?)
+}
+
+/// `a.`
+fn fact(alloc: Global) -> Result<Rule, AllocError> {
+    Ok(Rule {
+        file: 1,
+        at: 0,
+        head: HeadForm::One(atom(alloc, "a", false)?),
+        body: Items::new(alloc),
+    })
+}
+
+/// `a :- n(1).`
+fn through_the_number(alloc: Global) -> Result<Rule, AllocError> {
+    let head = atom(alloc, "a", false)?;
+    let one = with_argument(alloc, "n", Term::Int(1))?;
+    plain(alloc, 33, head, Literal::Pos(one))
+}
+
+/// The number of an aggregate is bound where it is over definite predicates: `a. n(N) :- N = #count{1 : a}.` is accepted, and with
+/// `{a}.` or `a :- n(1).` in place of the fact it is not, which comes before an aggregate's recursion.
+#[test]
+fn numbers_of_aggregates(rt: HostRuntime) -> Result<(), Fail> {
+    let alloc = rt.alloc();
+    let firsts = [
+        fact(alloc)?,
+        choice(alloc, "a")?,
+        through_the_number(alloc)?,
+    ];
+    let wants = [Want::Accepted, Want::Unsafe(5), Want::Unsafe(5)];
+    for (first, want) in firsts.into_iter().zip(wants) {
+        let rules = pair(alloc, first, assigned(alloc)?)?;
+        assert_eq!(rt; answer(alloc, rules.as_slice(), &[], true)?, want);
     }
     Ok(())
 }
@@ -535,7 +605,10 @@ fn elements_of_a_statement(rt: HostRuntime) -> Result<(), Fail> {
     let over_b = only(alloc, positive(alloc, "b", false)?)?;
     let statements = preference(alloc, atom(alloc, "a", false)?, over_b)?;
     let not_domain = DomainFault::NotDomain { file: 1, at: 27 };
-    assert_eq!(rt; domain_of(alloc, rules.as_slice(), statements.as_slice())?, Err(not_domain));
+    assert_eq!(rt;
+        domain_of(alloc, rules.as_slice(), statements.as_slice())?,
+        Err(not_domain)
+    );
     let unbound = preference(alloc, atom(alloc, "a", true)?, Items::new(alloc))?;
     let found = answer(alloc, rules.as_slice(), unbound.as_slice(), true)?;
     assert_eq!(rt; found, Want::Unsafe(27));

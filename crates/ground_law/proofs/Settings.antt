@@ -14,9 +14,9 @@ use Rattle.ap_syntax.specs.declared.terms.Literal as written_literal
 use Rattle.ap_syntax.specs.declared.terms.Literal.TheVariants as literals
 use Rattle.ap_syntax.specs.declared.terms.Term as written_term
 use Rattle.ap_term.specs.Value.{Value}
-use Rattle.ground_law.specs.Settings.{is_among, setting_of, TellsDefinite, AreConditionsDefinite, AreInputsOpen}
+use Rattle.ground_law.specs.Settings.{is_among, setting_of, AreConditionsDefinite, AreInputsOpen}
 use Rattle.ground_law.proofs.Literals.{all_true, true_in}
-use Rattle.pred_graph.specs.Components.{IsOrderOf}
+use Rattle.pred_graph.specs.Components.{IsOrderOf, TellsDefinite}
 use Rattle.pred_graph.specs.Predicates.{pred_of, literal_preds, preds_of, element_pred, choice_preds, head_preds, tuple_preds, item_preds, Depends, Reaches}
 use Rattle.pred_graph.specs.declared.pred.Pred.{Pred}
 use Rattle.pred_graph.proofs.MemberLemmas.{from_map, any_of}

@@ -1,21 +1,24 @@
 -- In a rule all of whose variables are bound, each global variable shows its value.
 use Rattle.std.proofs.Common.{◌≡◌, ℕ, Bool, true, false, not, ◌||◌, List, [], ◌∷◌, ◌++◌, map, flat_map, Contains, IsTrue, refl, sym, subst, ap, ◌∙◌, ⊎_elim, Option, Some, None}
-use Rattle.std.specs.List.{list_all, list_any, cons_option}
+use Rattle.std.specs.List.{filter, list_all, list_any, cons_option}
 use Rattle.std.specs.Prelude.{if◌then◌else◌}
 use Rattle.std.specs.Str.{bytes_eq}
 use Rattle.std.proofs.lemmas.Bool.{false≢true}
-use Rattle.ap_pieces.specs.Bound.{Names, has_all, has_name, has_any_name, shown, is_among, has_argument, binds_side, is_closed, plain_mentions, globals, unbound, is_bound_there, unbound_arguments, unbound_side, unbound_mention, AreUnboundOf, AreUnboundAmong, IsAllBound}
-use Rattle.ap_pieces.specs.Pieces.{side_form, side_of, side_occurrences, comparison_of, mention_of, mention_occurrences, guard_pieces, choice_piece, tuple_piece, head_pieces, item_pieces, rule_pieces, rule_source}
+use Rattle.ap_pieces.specs.Bound.{Names, has_all, has_name, has_any_name, shown, is_among, has_argument, binds_side, is_closed, aggregate_side, binders, globals, unbound, is_bound_there, unbound_arguments, unbound_side, unbound_mention, AreUnboundOf, AreUnboundAmong, IsAllBound}
+use Rattle.ap_pieces.specs.Pieces.{side_form, side_of, side_occurrences, comparison_of, mention_of, mention_occurrences, value_piece, value_pieces, guard_pieces, choice_piece, tuple_piece, tuple_occurrences, tuple_signatures, head_pieces, item_pieces, rule_pieces, rule_source}
 use Rattle.ap_pieces.specs.Variables.{occurrences, occurrences_of}
 use Rattle.ap_pieces.specs.declared.pieces.Mention.{Mention}
 use Rattle.ap_pieces.specs.declared.pieces.Mention.TheVariants as mentions
 use Rattle.ap_pieces.specs.declared.pieces.Piece.{Piece}
 use Rattle.ap_pieces.specs.declared.pieces.Piece.TheVariants as pieces
+use Rattle.ap_pieces.specs.declared.pieces.Signature.{Signature}
 use Rattle.ap_pieces.specs.declared.pieces.Side.{Side}
 use Rattle.ap_pieces.specs.declared.pieces.Side.TheVariants as sides
 use Rattle.ap_pieces.specs.declared.variables.Occurrence.{Occurrence}
+use Rattle.ap_syntax.specs.declared.rules.AggElement.{AggElement}
 use Rattle.ap_syntax.specs.declared.rules.BodyItem.{BodyItem}
 use Rattle.ap_syntax.specs.declared.rules.BodyItem.TheVariants as items
+use Rattle.ap_syntax.specs.declared.rules.Function.{Function}
 use Rattle.ap_syntax.specs.declared.rules.Guard.{Guard}
 use Rattle.ap_syntax.specs.declared.rules.HeadForm.{HeadForm}
 use Rattle.ap_syntax.specs.declared.rules.HeadForm.TheVariants as heads
@@ -112,18 +115,21 @@ module _ (bound : Names) (name : List ℕ) where
 abbrev piece_names : Piece → List (List ℕ)
 piece_names (pieces.Uses os) = names_of os
 piece_names (pieces.Plain mention) = names_of (mention_occurrences mention)
+piece_names (pieces.Value side inside mentioned) = names_of (side_occurrences side)
 piece_names (pieces.Part os condition) = []
 
-bound_piece : (global outside : Names) (piece : Piece) (names : List (List ℕ)) → AreUnboundOf global outside piece names → names ≡ [] → (name : List ℕ) → Contains (piece_names piece) name → IsTrue (outside name)
-bound_piece global outside (pieces.Uses os) names are e name m = bound_of outside name os (sym are ∙ e) m
-bound_piece global outside (pieces.Plain mention) names are e name m = bound_mention outside name outside mention (sym are ∙ e) m
-bound_piece global outside (pieces.Part os condition) names are e name m = absurd (nothing_in name m)
+bound_piece : (definite : Signature → Bool) (global outside : Names) (piece : Piece) (names : List (List ℕ)) → AreUnboundOf definite global outside piece names → names ≡ [] → (name : List ℕ) → Contains (piece_names piece) name → IsTrue (outside name)
+bound_piece definite global outside (pieces.Uses os) names are e name m = bound_of outside name os (sym are ∙ e) m
+bound_piece definite global outside (pieces.Plain mention) names are e name m = bound_mention outside name outside mention (sym are ∙ e) m
+bound_piece definite global outside (pieces.Value side inside mentioned) names are e name m =
+    bound_side outside name outside side (aggregate_side definite global inside mentioned) (sym are ∙ e) m
+bound_piece definite global outside (pieces.Part os condition) names are e name m = absurd (nothing_in name m)
 
-bound_pieces : (global outside : Names) (ps : List Piece) (names : List (List ℕ)) → AreUnboundAmong global outside ps names → names ≡ [] → (p : Piece) → Contains ps p → (name : List ℕ) → Contains (piece_names p) name → IsTrue (outside name)
-bound_pieces global outside [] names are e p m name n = absurd (nothing_in p m)
-bound_pieces global outside (q ∷ ps) names (first, rest, are, more, all) e p m name n =
+bound_pieces : (definite : Signature → Bool) (global outside : Names) (ps : List Piece) (names : List (List ℕ)) → AreUnboundAmong definite global outside ps names → names ≡ [] → (p : Piece) → Contains ps p → (name : List ℕ) → Contains (piece_names p) name → IsTrue (outside name)
+bound_pieces definite global outside [] names are e p m name n = absurd (nothing_in p m)
+bound_pieces definite global outside (q ∷ ps) names (first, rest, are, more, all) e p m name n =
     let (l, r) = both_empty first rest (sym e ∙ all) in
-    ⊎_elim (λ s. bound_piece global outside p first (subst (λ x. AreUnboundOf global outside x first) s are) l name n) (λ t. bound_pieces global outside ps rest more r p t name n) (first_or_rest q ps p m)
+    ⊎_elim (λ s. bound_piece definite global outside p first (subst (λ x. AreUnboundOf definite global outside x first) s are) l name n) (λ t. bound_pieces definite global outside ps rest more r p t name n) (first_or_rest q ps p m)
 
 -- ---- the global variables of a rule stand in its pieces
 
@@ -173,6 +179,26 @@ guard_in : (g : Option Guard) (name : List ℕ) → Contains (guard_variables (r
 guard_in None name m = absurd (nothing_in name m)
 guard_in (Some guard) name m = (pieces.Uses (occurrences guard.term), here (pieces.Uses (occurrences guard.term)) [], subst (λ ns. Contains ns name) (sym (is_read guard.term).0) m)
 
+-- the same of the guard of an aggregate
+value_in : (negated : Bool) (rel : Rel) (term : Term) (es : List AggElement) (name : List ℕ) → Contains (variables (read_term term)) name → Contains (piece_names (value_piece negated rel term es)) name
+value_in false Eq t es name m = subst (λ ns. Contains ns name) (sym (side_is t (out-Term t) (roll-out-Term t))) m
+value_in false Ne t es name m = subst (λ ns. Contains ns name) (sym (is_read t).0) m
+value_in false Lt t es name m = subst (λ ns. Contains ns name) (sym (is_read t).0) m
+value_in false Le t es name m = subst (λ ns. Contains ns name) (sym (is_read t).0) m
+value_in false Gt t es name m = subst (λ ns. Contains ns name) (sym (is_read t).0) m
+value_in false Ge t es name m = subst (λ ns. Contains ns name) (sym (is_read t).0) m
+value_in true rel t es name m = subst (λ ns. Contains ns name) (sym (is_read t).0) m
+
+values_in : (negated : Bool) (g : Option Guard) (es : List AggElement) (name : List ℕ) → Contains (guard_variables (read_guard g)) name → IsIn (value_pieces negated g es) name
+values_in negated None es name m = absurd (nothing_in name m)
+values_in negated (Some guard) es name m = (value_piece negated guard.rel guard.term es, here (value_piece negated guard.rel guard.term es) [], value_in negated guard.rel guard.term es name m)
+
+aggregate_in : (negated : Bool) (left right : Option Guard) (es : List AggElement) (middle : List Piece) (name : List ℕ) → Contains (guard_variables (read_guard left) ++ guard_variables (read_guard right)) name → IsIn (value_pieces negated left es ++ middle ++ value_pieces negated right es) name
+aggregate_in negated left right es middle name m = ⊎_elim
+    (λ l. in_left (value_pieces negated left es ++ middle) (value_pieces negated right es) name (in_left (value_pieces negated left es) middle name (values_in negated left es name l)))
+    (λ r. in_right (value_pieces negated left es ++ middle) (value_pieces negated right es) name (values_in negated right es name r))
+    (in_append (guard_variables (read_guard left)) (guard_variables (read_guard right)) name m)
+
 guards_in : (left right : Option Guard) (middle : List Piece) (name : List ℕ) → Contains (guard_variables (read_guard left) ++ guard_variables (read_guard right)) name → IsIn (guard_pieces left ++ middle ++ guard_pieces right) name
 guards_in left right middle name m = ⊎_elim
     (λ l. in_left (guard_pieces left ++ middle) (guard_pieces right) name (in_left (guard_pieces left) middle name (guard_in left name l)))
@@ -187,7 +213,7 @@ head_in heads.Nothing name m = absurd (nothing_in name m)
 item_in : (i : BodyItem) (name : List ℕ) → Contains (item_variables (read_item i)) name → IsIn (item_pieces i) name
 item_in (items.Plain l) name m = (pieces.Plain (mention_of l), here (pieces.Plain (mention_of l)) [], subst (λ ns. Contains ns name) (sym (literal_is l)) m)
 item_in (items.All at l c) name m = absurd (nothing_in name m)
-item_in (items.Agg negated left function es right) name m = guards_in left right (map tuple_piece es) name m
+item_in (items.Agg negated left function es right) name m = aggregate_in negated left right es (map tuple_piece es) name m
 
 items_in : (is : List BodyItem) (name : List ℕ) → Contains (flat_map item_variables (map read_item is)) name → IsIn (flat_map item_pieces is) name
 items_in [] name m = absurd (nothing_in name m)
@@ -274,49 +300,114 @@ arguments_in (i ∷ is) l m name n = ⊎_elim
     (λ e. subst (λ j. Contains (items_arguments (read_item j ∷ map read_item is)) name) (sym e) (first_in l (map read_item is) name n))
     (λ r. later_in (read_item i) (map read_item is) name (arguments_in is l r name n)) (first_or_rest i is (items.Plain l) m)
 
--- ---- the literals that bind are those of the body
+-- ---- what an aggregate's guard binds shows its value
 
-quiet_guard : (g : Option Guard) (p : Piece) → Contains (guard_pieces g) p → plain_mentions p ≡ []
-quiet_guard None p m = absurd (nothing_in p m)
-quiet_guard (Some guard) p m = ⊎_elim (λ e. subst (λ q. plain_mentions q ≡ []) e refl) (λ r. absurd (nothing_in p r)) (first_or_rest (pieces.Uses (occurrences guard.term)) [] p m)
+aggregate_guards : (g : Option Guard) → List (List ℕ)
+aggregate_guards g = guard_arguments (read_guard g)
 
-quiet_guards : (left right : Option Guard) (middle : List Piece) → ((p : Piece) → Contains middle p → plain_mentions p ≡ []) → (p : Piece) → Contains (guard_pieces left ++ middle ++ guard_pieces right) p → plain_mentions p ≡ []
-quiet_guards left right middle f p m = ⊎_elim (λ l. ⊎_elim (quiet_guard left p) (f p) (in_append (guard_pieces left) middle p l)) (quiet_guard right p) (in_append (guard_pieces left ++ middle) (guard_pieces right) p m)
+values_shown : (negated : Bool) (left right : Option Guard) (function : Function) (es : List AggElement) (is : List BodyItem) → Contains is (items.Agg negated left function es right) → (name : List ℕ) → Contains (aggregate_guards left ++ aggregate_guards right) name → Contains (items_arguments (map read_item is)) name
+unfolding aggregate_guards
+values_shown negated left right function es [] m name n = absurd (nothing_in (items.Agg negated left function es right) m)
+values_shown negated left right function es (i ∷ is) m name n = ⊎_elim
+    (λ e. subst (λ j. Contains (items_arguments (read_item j ∷ map read_item is)) name) (sym e) (⊎_elim
+    (λ l. to_left (guard_arguments (read_guard left)) (guard_arguments (read_guard right) ++ items_arguments (map read_item is)) name l)
+    (λ r. to_right (guard_arguments (read_guard left)) (guard_arguments (read_guard right) ++ items_arguments (map read_item is)) name (to_left (guard_arguments (read_guard right)) (items_arguments (map read_item is)) name r))
+    (in_append (guard_arguments (read_guard left)) (guard_arguments (read_guard right)) name n)))
+    (λ r. later_in (read_item i) (map read_item is) name (values_shown negated left right function es is r name n)) (first_or_rest i is (items.Agg negated left function es right) m)
 
-quiet_parts : {X : Type 0} (f : X → Piece) → ((x : X) → plain_mentions (f x) ≡ []) → (xs : List X) (p : Piece) → Contains (map f xs) p → plain_mentions p ≡ []
-quiet_parts f e xs p m = let (x, inside, is) = from_map f xs p m in subst (λ q. plain_mentions q ≡ []) is (e x)
+-- ---- what binds is of the body
 
-quiet_head : (h : HeadForm) (p : Piece) → Contains (head_pieces h) p → plain_mentions p ≡ []
-quiet_head (heads.One atom) p m = ⊎_elim (λ e. subst (λ q. plain_mentions q ≡ []) e refl) (λ r. absurd (nothing_in p r)) (first_or_rest (pieces.Uses (occurrences_of atom.terms)) [] p m)
-quiet_head (heads.Choice left es right) p m = quiet_guards left right (map choice_piece es) (quiet_parts choice_piece (λ e. refl) es) p m
-quiet_head heads.Nothing p m = absurd (nothing_in p m)
+module _ (definite : Signature → Bool) (global : Names) where
+  abbrev binds : Piece → List Mention
+  binds = binders definite global
 
-mention_in : (i : BodyItem) (p : Piece) → Contains (item_pieces i) p → (mention : Mention) → Contains (plain_mentions p) mention → (l : Literal) × (i ≡ items.Plain l) × (mention ≡ mention_of l)
-mention_in (items.Plain l) p m mention n =
-    let e : pieces.Plain (mention_of l) ≡ p = ⊎_elim (λ e. e) (λ r. absurd (nothing_in p r)) (first_or_rest (pieces.Plain (mention_of l)) [] p m) in
-    (l, refl, ⊎_elim (λ q. sym q) (λ r. absurd (nothing_in mention r)) (first_or_rest (mention_of l) [] mention (subst (λ q. Contains (plain_mentions q) mention) (sym e) n)))
-mention_in (items.All at l c) p m mention n = absurd (⊎_elim (λ e. nothing_in mention (subst (λ q. Contains (plain_mentions q) mention) (sym e) n)) (λ r. nothing_in p r) (first_or_rest (pieces.Part _ _) [] p m))
-mention_in (items.Agg negated left function es right) p m mention n =
-    absurd (nothing_in mention (subst (λ ms. Contains ms mention) (quiet_guards left right (map tuple_piece es) (quiet_parts tuple_piece (λ e. refl) es) p m) n))
+  quiet_guard : (g : Option Guard) (p : Piece) → Contains (guard_pieces g) p → binds p ≡ []
+  quiet_guard None p m = absurd (nothing_in p m)
+  quiet_guard (Some guard) p m = ⊎_elim (λ e. subst (λ q. binds q ≡ []) e refl) (λ r. absurd (nothing_in p r)) (first_or_rest (pieces.Uses (occurrences guard.term)) [] p m)
+
+  quiet_parts : {X : Type 0} (f : X → Piece) → ((x : X) → binds (f x) ≡ []) → (xs : List X) (p : Piece) → Contains (map f xs) p → binds p ≡ []
+  quiet_parts f e xs p m = let (x, inside, is) = from_map f xs p m in subst (λ q. binds q ≡ []) is (e x)
+
+  quiet_head : (h : HeadForm) (p : Piece) → Contains (head_pieces h) p → binds p ≡ []
+  quiet_head (heads.One atom) p m = ⊎_elim (λ e. subst (λ q. binds q ≡ []) e refl) (λ r. absurd (nothing_in p r)) (first_or_rest (pieces.Uses (occurrences_of atom.terms)) [] p m)
+  quiet_head (heads.Choice left es right) p m = ⊎_elim
+      (λ l. ⊎_elim (quiet_guard left p) (quiet_parts choice_piece (λ e. refl) es p) (in_append (guard_pieces left) (map choice_piece es) p l))
+      (quiet_guard right p) (in_append (guard_pieces left ++ map choice_piece es) (guard_pieces right) p m)
+  quiet_head heads.Nothing p m = absurd (nothing_in p m)
+
+  module _ (z : Names) where
+    -- an aggregate gets nothing from its guard
+    no_side : (b : Bool) (os : List Occurrence) (side : Side) → IsTrue (binds_side z (if b then sides.Compound os else sides.Any) side)
+    no_side true os side = refl
+    no_side false os side = refl
+
+    closed_pair : (t : Term) (inside : List Occurrence) (mentioned : List Signature) → ((name : List ℕ) → Contains (arguments (read_term t)) name → IsTrue (z name))
+        → IsTrue (is_closed z (mentions.Equal (side_of t) (aggregate_side definite global inside mentioned)))
+    closed_pair t inside mentioned f =
+        let other = aggregate_side definite global inside mentioned in
+        and_true (binds_side z (side_of t) other) (binds_side z other (side_of t)) (closed_side z t (out-Term t) (roll-out-Term t) other f)
+        (no_side (list_all definite mentioned) (filter (is_among global) inside) (side_of t))
+
+    closed_value : (negated : Bool) (rel : Rel) (t : Term) (es : List AggElement) → ((name : List ℕ) → Contains (arguments (read_term t)) name → IsTrue (z name))
+        → (mention : Mention) → Contains (binds (value_piece negated rel t es)) mention → IsTrue (is_closed z mention)
+    closed_value false Eq t es f mention m = ⊎_elim
+        (λ e. subst (λ x. IsTrue (is_closed z x)) e (closed_pair t (flat_map tuple_occurrences es) (flat_map tuple_signatures es) f))
+        (λ r. absurd (nothing_in mention r))
+        (first_or_rest (mentions.Equal (side_of t) (aggregate_side definite global (flat_map tuple_occurrences es) (flat_map tuple_signatures es))) [] mention m)
+    closed_value false Ne t es f mention m = absurd (nothing_in mention m)
+    closed_value false Lt t es f mention m = absurd (nothing_in mention m)
+    closed_value false Le t es f mention m = absurd (nothing_in mention m)
+    closed_value false Gt t es f mention m = absurd (nothing_in mention m)
+    closed_value false Ge t es f mention m = absurd (nothing_in mention m)
+    closed_value true rel t es f mention m = absurd (nothing_in mention m)
+
+    closed_values : (negated : Bool) (g : Option Guard) (es : List AggElement) → ((name : List ℕ) → Contains (aggregate_guards g) name → IsTrue (z name))
+        → (p : Piece) → Contains (value_pieces negated g es) p → (mention : Mention) → Contains (binds p) mention → IsTrue (is_closed z mention)
+    unfolding aggregate_guards
+    closed_values negated None es f p m mention n = absurd (nothing_in p m)
+    closed_values negated (Some guard) es f p m mention n = ⊎_elim
+        (λ e. closed_value negated guard.rel guard.term es f mention (subst (λ q. Contains (binds q) mention) (sym e) n))
+        (λ r. absurd (nothing_in p r)) (first_or_rest (value_piece negated guard.rel guard.term es) [] p m)
+
+    closed_item : (is : List BodyItem) → ((name : List ℕ) → Contains (items_arguments (map read_item is)) name → IsTrue (z name))
+        → (i : BodyItem) → Contains is i → (p : Piece) → Contains (item_pieces i) p → (mention : Mention) → Contains (binds p) mention → IsTrue (is_closed z mention)
+    closed_item is f (items.Plain l) at p m mention n =
+        let e : pieces.Plain (mention_of l) ≡ p = ⊎_elim (λ e. e) (λ r. absurd (nothing_in p r)) (first_or_rest (pieces.Plain (mention_of l)) [] p m) in
+        let same : mention_of l ≡ mention = ⊎_elim (λ q. q) (λ r. absurd (nothing_in mention r)) (first_or_rest (mention_of l) [] mention (subst (λ q. Contains (binds q) mention) (sym e) n)) in
+        subst (λ x. IsTrue (is_closed z x)) same (closed_literal z l (λ name a. f name (arguments_in is l at name a)))
+    closed_item is f (items.All at l c) of_item p m mention n =
+        absurd (⊎_elim (λ e. nothing_in mention (subst (λ q. Contains (binds q) mention) (sym e) n)) (λ r. nothing_in p r) (first_or_rest (pieces.Part _ _) [] p m))
+    closed_item is f (items.Agg negated left function es right) at p m mention n =
+        let shown = values_shown negated left right function es is at in
+        ⊎_elim
+        (λ l. ⊎_elim
+        (λ v. closed_values negated left es (λ name a. f name (shown name (to_left (aggregate_guards left) (aggregate_guards right) name a))) p v mention n)
+        (λ t. absurd (nothing_in mention (subst (λ ms. Contains ms mention) (quiet_parts tuple_piece (λ e. refl) es p t) n)))
+        (in_append (value_pieces negated left es) (map tuple_piece es) p l))
+        (λ v. closed_values negated right es (λ name a. f name (shown name (to_right (aggregate_guards left) (aggregate_guards right) name a))) p v mention n)
+        (in_append (value_pieces negated left es ++ map tuple_piece es) (value_pieces negated right es) p m)
 
 -- ---- the law
 
-module _ (rule : Rule) where
+module _ (definite : Signature → Bool) (rule : Rule) where
   abbrev shows : Names
   shows = among (items_arguments (map read_item rule.body))
 
-  closed_mention : (mention : Mention) → Contains (flat_map plain_mentions (rule_pieces rule)) mention → IsTrue (is_closed shows mention)
+  abbrev rule_binders : Piece → List Mention
+  rule_binders = binders definite (globals (rule_pieces rule))
+
+  closed_mention : (mention : Mention) → Contains (flat_map rule_binders (rule_pieces rule)) mention → IsTrue (is_closed shows mention)
   closed_mention mention m =
-      let (p, inside, n) = from_flat_map plain_mentions (rule_pieces rule) mention m in
-      ⊎_elim (λ h. absurd (nothing_in mention (subst (λ ms. Contains ms mention) (quiet_head rule.head p h) n)))
+      let global = globals (rule_pieces rule) in
+      let (p, inside, n) = from_flat_map rule_binders (rule_pieces rule) mention m in
+      ⊎_elim (λ h. absurd (nothing_in mention (subst (λ ms. Contains ms mention) (quiet_head definite global rule.head p h) n)))
       (λ b. let (i, among_items, of_item) = from_flat_map item_pieces rule.body p b in
-      let (l, e, f) = mention_in i p of_item mention n in
-      subst (λ x. IsTrue (is_closed shows x)) (sym f) (closed_literal shows l (λ name a. is_among_list (items_arguments (map read_item rule.body)) name (arguments_in rule.body l (subst (Contains rule.body) e among_items) name a))))
+      closed_item definite global shows rule.body (λ name a. is_among_list (items_arguments (map read_item rule.body)) name a) i among_items p of_item mention n)
       (in_append (head_pieces rule.head) (flat_map item_pieces rule.body) p inside)
 
-  pub is_shown : IsAllBound (rule_source rule) → IsShown (read_rule rule)
+  pub is_shown : IsAllBound definite (rule_source rule) → IsShown (read_rule rule)
   is_shown (outside, bound, all) name m =
       let (p, inside, n) = rule_in rule name m in
       in_list (items_arguments (map read_item rule.body)) name
-      (bound.least shows (λ other e. absurd (false≢true e)) (all_true (is_closed shows) (flat_map plain_mentions (rule_pieces rule)) closed_mention) name
-      (bound_pieces (globals (rule_pieces rule)) outside (rule_pieces rule) [] all refl p inside name n))
+      (bound.least shows (λ other e. absurd (false≢true e)) (all_true (is_closed shows) (flat_map rule_binders (rule_pieces rule)) closed_mention) name
+      (bound_pieces definite (globals (rule_pieces rule)) outside (rule_pieces rule) [] all refl p inside name n))

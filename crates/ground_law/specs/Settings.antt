@@ -1,11 +1,10 @@
 -- What a grounder is given, as rules with variables see it.
-use Rattle.std.specs.Prelude.{◌↔◌, ℕ, Bool, List, map, Contains, IsTrue}
+use Rattle.std.specs.Prelude.{ℕ, Bool, List, map, Contains, IsTrue}
 use Rattle.std.specs.List.{list_all}
 use Rattle.ap_syntax.specs.declared.rules.BodyItem.TheVariants as items
 use Rattle.ap_syntax.specs.declared.rules.Rule as written_rule
 use Rattle.ap_syntax.specs.declared.terms.Literal as written_literal
 use Rattle.ap_term.specs.Value.{Value}
-use Rattle.pred_graph.specs.Components.{IsDefinite}
 use Rattle.pred_graph.specs.Predicates.{preds_of}
 use Rattle.pred_graph.specs.declared.pred.Pred.{Pred}
 use Rattle.rule_form.specs.Possible.{Setting}
@@ -30,10 +29,6 @@ setting_of rules number definite certain inputs = record {
   certain = certain;
   inputs = inputs;
 }
-
--- the test tells the definite predicates of the rules
-abbrev pub TellsDefinite : List written_rule.Rule → Bool → (Pred → Bool) → Type 0
-TellsDefinite rules base definite = (p : Pred) → IsTrue (definite p) ↔ IsDefinite rules base p
 
 -- conditions of conditional literals have definite predicates alone
 abbrev pub AreConditionsDefinite : List written_rule.Rule → (Pred → Bool) → Type 0

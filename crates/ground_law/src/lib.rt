@@ -7,6 +7,7 @@
 ghost use Rattle.std.specs.Prelude.{◌≡◌, ◌↔◌, ℕ, Bool, List, map, All, IsTrue};
 ghost use Rattle.ap_pieces.specs.Bound.{IsAllBound};
 ghost use Rattle.ap_pieces.specs.Pieces.{rule_source};
+ghost use Rattle.ap_pieces.specs.declared.pieces.Signature.{Signature};
 ghost use Rattle.ap_syntax.specs.declared.rules.Rule.{Rule};
 ghost use Rattle.ap_term.specs.Table.{IsIdOf, HasDistinctValues, value_at};
 ghost use Rattle.ap_term.specs.Value.{Value};
@@ -18,8 +19,8 @@ ghost use Rattle.ground_law.specs.Facts.{AreFactNumbers, IsGiven, IsSetOf};
 ghost use Rattle.ground_law.specs.Numbers.{numbers, atoms_at};
 ghost use Rattle.ground_law.specs.Program.{IsGroundProgram};
 ghost use Rattle.ground_law.specs.Quantities.{IsPair, HasSmallWeights};
-ghost use Rattle.ground_law.specs.Settings.{setting_of, is_among, TellsDefinite, AreConditionsDefinite, AreInputsOpen};
-ghost use Rattle.pred_graph.specs.Components.{IsOrderOf};
+ghost use Rattle.ground_law.specs.Settings.{setting_of, is_among, AreConditionsDefinite, AreInputsOpen};
+ghost use Rattle.pred_graph.specs.Components.{IsOrderOf, TellsDefinite};
 ghost use Rattle.pred_graph.specs.declared.pred.Pred.{Pred};
 ghost use Rattle.rule_form.specs.Predicates.{predicate_of};
 ghost use Rattle.rule_form.specs.Arguments.{IsShown};
@@ -80,7 +81,7 @@ pub fn setting_is_static()
 {}
 
 /// Where all variables of a rule are bound, each global variable shows its value in an instance: so an instance is given by
-/// the values of its terms.
+/// the values of its terms. It holds for any test of which predicates are definite.
 pub fn bound_variables_are_shown()
-    ensures { (rule : Rule) → IsAllBound (rule_source rule) → IsShown (read_rule rule) }
+    ensures { (definite : Signature → Bool) (rule : Rule) → IsAllBound definite (rule_source rule) → IsShown (read_rule rule) }
 {}

@@ -37,6 +37,10 @@ pub record IsDecided (rules : List Rule) (base : Bool) (p : Pred) : Type 0 where
 abbrev pub IsDefinite : List Rule → Bool → Pred → Type 0
 IsDefinite rules base p = (q : Pred) → Reaches rules p q → IsDecided rules base q
 
+-- the test tells the definite predicates
+abbrev pub TellsDefinite : List Rule → Bool → (Pred → Bool) → Type 0
+TellsDefinite rules base definite = (p : Pred) → IsTrue (definite p) ↔ IsDefinite rules base p
+
 -- ---- numbers of components
 
 -- the numbers order the components of the predicates that the rules mention; any other predicate has 0

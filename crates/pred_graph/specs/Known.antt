@@ -1,11 +1,11 @@
 -- What is known of rules: the components of their predicates, and which predicates are definite.
-use Rattle.std.specs.Prelude.{ℕ, Bool, not, ◌||◌, nat_lt, if◌then◌else◌, List, length, IsTrue, ◌↔◌}
+use Rattle.std.specs.Prelude.{ℕ, Bool, not, ◌||◌, nat_lt, if◌then◌else◌, List, length}
 use Rattle.definite.specs.Rules.{marked}
 use Rattle.ap_syntax.specs.declared.rules.Rule.{Rule}
 use Rattle.pred_graph.specs.declared.pred.Pred.{Pred}
 use Rattle.pred_graph.specs.Tables.{place_in}
 use Rattle.pred_graph.specs.Graphs.{number_of}
-use Rattle.pred_graph.specs.Components.{is_open_name, IsDefinite, IsOrderOf}
+use Rattle.pred_graph.specs.Components.{is_open_name, TellsDefinite, IsOrderOf}
 
 -- what a `Safe` is for contracts: whether the rules are those of a base program, the predicates that they mention, and of each of
 -- these in its turn the number of its component, and whether it is not definite
@@ -28,4 +28,4 @@ definite_in safe p = if is_known safe p then not (marked safe.indefinite (place_
 -- it tells the components and the definite predicates of these rules
 pub record IsSafe (rules : List Rule) (safe : Known) : Type 0 where
   pub order : IsOrderOf rules (component_in safe)
-  pub definite : (p : Pred) → IsTrue (definite_in safe p) ↔ IsDefinite rules safe.base p
+  pub definite : TellsDefinite rules safe.base (definite_in safe)

@@ -41,7 +41,8 @@ impl<const K: usize> Model for Index<K> {
 }
 
 impl<const K: usize> Index<K> {
-    /// The index of a relation by these places, which are counted from 0 and fewer than 4,294,967,296. It fails only for want of memory.
+    /// The index of a relation by these places, which are counted from 0. They have to be fewer than 4,294,967,296, each below the
+    /// relation's arity, and none may stand twice. It fails only for want of memory.
     pub fn build(
         alloc: Global,
         relation: &Relation,
@@ -61,7 +62,8 @@ impl<const K: usize> Index<K> {
         Index::from_sorted(alloc, &entries)
     }
 
-    /// The places of the rows with this key in ascending order, which is the order in which they were pushed.
+    /// The places of the rows with this key, its terms in the order of the places with which the index was built: ascending, which
+    /// is the order in which the rows were pushed.
     pub fn matching(&self, key: &[TermId; K]) -> &[u32]
         ensures { result.now ≡ places_beside key.now self.now }
     {

@@ -63,7 +63,7 @@ impl Relation {
         self.count == 0
     }
 
-    /// The row at a place, counted from 0.
+    /// The row at a place, counted from 0, where there is one: the place has to be below `len`.
     pub fn row(&self, place: u32) -> &[TermId]
         requires { place < length self.now.rows }
         ensures row { slice_get self.now.rows place ≡ Some result.now }
@@ -74,7 +74,8 @@ impl Relation {
         &self.ids[start..start + arity]
     }
 
-    /// Puts a row behind the others. It fails only where there is no memory for it, and then changes nothing.
+    /// Puts a row behind the others. It has to have as many members as the arity says, and there have to be fewer than
+    /// 4,294,967,295 rows. It fails only where there is no memory for it, and then changes nothing.
     pub fn push(&mut self, row: &[TermId]) -> Result<(), AllocError>
         requires size { IsRowOf self.old.arity row.now }
         requires room { length self.old.rows + 1 < 2 ^ 32 }

@@ -18,7 +18,8 @@ macro_rules! select_by {
 }
 
 /// The places of the rows that have these terms at these places, in ascending order, which is the order in which they were pushed.
-/// With no place bound these are all rows. It fails only for want of memory.
+/// Places are counted from 0; each has to be below the relation's arity, and none may stand twice. With no place bound these are
+/// all rows. It fails only for want of memory.
 pub fn select(
     alloc: Global,
     relation: &Relation,

@@ -2,7 +2,7 @@
 ghost use Rattle.std.specs.Prelude.{◌<◌, map, All, IsTrue};
 ghost use Rattle.rel_index.specs.Keys.{AreDistinct};
 
-use crate::{Relation, select};
+use crate::{Index, Relation, select};
 use ap_term::TermId;
 use std::process::Abort;
 use std::test::Fail;
@@ -90,5 +90,24 @@ fn rows_without_members(rt: HostRuntime) -> Result<(), Fail> {
     push(&rt, &mut relation, &[])?;
     let rows = select(rt.alloc(), &relation, &[])?;
     assert_eq!(rt; rows.as_slice(), [0, 1].as_slice());
+    Ok(())
+}
+
+/// An index tells of the rows that were there when it was built.
+#[test]
+fn rows_by_an_index(rt: HostRuntime) -> Result<(), Fail> {
+    let mut relation = Relation::new(rt.alloc(), 5);
+    for row in &ROWS {
+        push(&rt, &mut relation, row)?;
+    }
+    assert!(rt; relation.arity() == 5);
+    let index = Index::build(rt.alloc(), &relation, [4, 1])?;
+    push(&rt, &mut relation, &ROWS[0])?;
+    assert_eq!(rt;
+        index.matching(&[TermId(5), TermId(2)]),
+        [0, 2, 3, 5, 6].as_slice()
+    );
+    assert_eq!(rt; index.matching(&[TermId(6), TermId(2)]), [1].as_slice());
+    assert!(rt; index.matching(&[TermId(2), TermId(5)]).is_empty());
     Ok(())
 }
