@@ -178,17 +178,23 @@ fn is_seven_sets(asked: &Solve) -> bool {
     numbers && certified && files && constant
 }
 
+/// Whether all sets of a made input are asked.
+fn is_made(asked: &Solve) -> bool {
+    asked.wanted == 0 && matches!(&asked.input, Input::Made(3))
+}
+
+/// Whether the words ask for sets, and for what is told.
+fn asks(answer: &Result<Words, WordsFault>, made: bool) -> bool {
+    match answer {
+        Ok(Words::Solve(asked)) if made => is_made(asked),
+        Ok(Words::Solve(asked)) => is_seven_sets(asked),
+        _ => false,
+    }
+}
+
 #[test]
 fn values(rt: HostRuntime) {
     let row = "f|-n7|--budget=5|--chains|8|--sorted|--binary|--cert=c|-cn=-3|-c|m=a|--|-x";
-    match read(rt.alloc(), row) {
-        Ok(Words::Solve(asked)) => assert!(rt; is_seven_sets(&asked)),
-        _ => assert!(rt; false),
-    }
-    match read(rt.alloc(), "--make=3") {
-        Ok(Words::Solve(asked)) => {
-            assert!(rt; asked.wanted == 0 && matches!(&asked.input, Input::Made(3)))
-        }
-        _ => assert!(rt; false),
-    }
+    assert!(rt; asks(&read(rt.alloc(), row), false));
+    assert!(rt; asks(&read(rt.alloc(), "--make=3"), true));
 }

@@ -14,7 +14,8 @@ use Rattle.ap_term.specs.Order.{value_cmp}
 use Rattle.ap_term.specs.Value.{Value, compound, Values}
 use Rattle.ap_term.proofs.OrderLemmas.{value_cmp-total}
 use Rattle.ground_law.specs.Groups.{IsTupleRow, IsGroundGroup}
-use Rattle.ground_law.specs.Literals.{literal_place, literal_cmp, literals_cmp, AreGroundLiterals}
+use Rattle.ground_law.specs.Literals.{AreGroundLiterals}
+use Rattle.sets.specs.Literals.{literal_place, literal_cmp, literals_cmp}
 use Rattle.ground_form.specs.declared.groups.Group.{Group}
 use Rattle.ground_form.specs.declared.groups.GroupGuard.{GroupGuard}
 use Rattle.ground_form.specs.declared.groups.GroupRow.{GroupRow}

@@ -8,7 +8,8 @@ use Rattle.ap_syntax.specs.declared.terms.Rel.{Rel}
 use Rattle.ap_syntax.specs.declared.terms.Rel.TheVariants as rels
 use Rattle.ap_term.specs.Order.{value_cmp}
 use Rattle.ap_term.specs.Value.{Value, integer, constant, string, compound, Values, none, also}
-use Rattle.ground_law.specs.Literals.{AreGroundLiterals, Exists, literals_cmp}
+use Rattle.ground_law.specs.Literals.{AreGroundLiterals, Exists}
+use Rattle.sets.specs.Literals.{literals_cmp}
 use Rattle.ground_form.specs.declared.groups.Group.{Group}
 use Rattle.ground_form.specs.declared.groups.GroupGuard.{GroupGuard}
 use Rattle.ground_form.specs.declared.groups.GroupGuard.TheVariants.{Compare, Fixed}

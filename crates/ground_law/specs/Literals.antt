@@ -1,29 +1,14 @@
 -- Lists of literals by number, cut to the atoms that have a number.
-use Rattle.std.specs.Prelude.{◌*◌, ◌≡◌, ◌↔◌, ℕ, suc, ℤ, pos, negsuc, List, AllPairs, Contains, Some, IsTrue, All}
+use Rattle.std.specs.Prelude.{◌≡◌, ◌↔◌, ℕ, suc, ℤ, pos, negsuc, List, AllPairs, Contains, Some, IsTrue, All}
 use Rattle.std.specs.Ordering.{is_lt}
-use Rattle.std.specs.Cmp.Lexicographic.{slice_cmp}
-use Rattle.std.specs.declared.cmp.Ordering.{Ordering}
-use Rattle.std.specs.Ordering.{nat_cmp}
 use Rattle.ap_term.specs.Value.{Value}
 use Rattle.rule_form.specs.Possible.{Setting, IsPossible, IsCertain}
 use Rattle.sets.specs.Lists.{numbered}
+use Rattle.sets.specs.Literals.{literal_cmp}
 
 -- the atom has this number
 abbrev pub IsAtomNumber : List Value → ℕ → Value → Type 0
 IsAtomNumber atoms k b = numbered atoms k ≡ Some b
-
--- the place of a literal: by atom, the positive one first
-abbrev pub literal_place : ℤ → ℕ
-literal_place (pos k) = k * 2
-literal_place (negsuc k) = suc (suc k * 2)
-
--- the order of literals
-abbrev pub literal_cmp : ℤ → ℤ → Ordering
-literal_cmp c d = nat_cmp (literal_place c) (literal_place d)
-
--- lists go member by member, and a proper prefix stands first
-abbrev pub literals_cmp : List ℤ → List ℤ → Ordering
-literals_cmp = slice_cmp literal_cmp
 
 -- the literals over atoms with a number, each once and in order
 pub record AreGroundLiterals (atoms : List Value) (asked barred : Value → Type 0) (cs : List ℤ) : Type 0 where

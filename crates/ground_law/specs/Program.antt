@@ -8,7 +8,8 @@ use Rattle.ap_term.specs.Table.{value_at}
 use Rattle.ap_term.specs.Value.{Value, integer}
 use Rattle.rule_form.specs.Instances.{Instance}
 use Rattle.ground_law.specs.Ground.{IsGrounding}
-use Rattle.ground_law.specs.Literals.{literal_place, IsAtomNumber}
+use Rattle.ground_law.specs.Literals.{IsAtomNumber}
+use Rattle.sets.specs.Literals.{literal_place}
 use Rattle.ground_form.specs.declared.atoms.AtomId.{AtomId}
 use Rattle.ground_form.specs.declared.bodies.Body.{Body}
 use Rattle.ground_form.specs.declared.bodies.GuardUse.{GuardUse}
