@@ -3,7 +3,7 @@ use Rattle.std.proofs.Common.{◌≡◌, ℕ, zero, suc, ◌+◌, ◌-◌, ◌*�
 use Rattle.std.proofs.lemmas.Bool.{cases_eq}
 use Rattle.std.proofs.lemmas.List.{get_or-set_same, get_or-set_other, drop_more, get_or-reverse}
 use Rattle.theory_form.specs.declared.literals.Lit.{Lit}
-use Rattle.theory_form.specs.Truth.{value_of, IsFalseIn, IsSettled}
+use Rattle.theory_form.specs.Truth.{value_of, IsFalseIn, IsSettled, IsTrueIn}
 use Rattle.theory_form.specs.Literals.{opposite}
 use Rattle.asp_trail.specs.declared.Entry.{Entry}
 use Rattle.asp_trail.specs.Trail.{values_of, IsTrail}
@@ -11,8 +11,9 @@ use Rattle.asp_trail.proofs.TrailLemmas.{length-values_of, free_count-values_of}
 use Rattle.asp_store.specs.Store.{clause_at, Grew, AllSettled}
 use Rattle.asp_store.specs.declared.choices.Kept.{Kept}
 use Rattle.asp_store.specs.declared.visits.Mark.{Mark}
+use Rattle.asp_store.specs.declared.watches.Watcher.{Watcher}
 use Rattle.asp_store.specs.Watch.{kept_at, clauses_of, code, older, WatchOk, LevelOk, IsWatched, AllWatched, IsNext}
-use Rattle.asp_store.proofs.WatchLemmas.{settled_at_end}
+use Rattle.asp_store.proofs.WatchLemmas.{settled_at_end, KeepsTrue-entry}
 use Rattle.asp_store.proofs.LevelLemmas.{IsBelow-top}
 use Rattle.asp_store.proofs.ExamineLemmas.{any_lit, code-le}
 
@@ -73,7 +74,7 @@ IsNext-head n h es d t below =
       below = (IsBelow-top n (h + 1) es t).falses;
     }
 
-pub code-opposite : (lists : List (List ℕ)) (n h : ℕ) (es : List Entry) (d : Entry) → IsTrail n es → h < length es → 2 * n ≤ length lists → code (opposite (get_or (reverse es) h d).lit) < length lists
+pub code-opposite : (lists : List (List Watcher)) (n h : ℕ) (es : List Entry) (d : Entry) → IsTrail n es → h < length es → 2 * n ≤ length lists → code (opposite (get_or (reverse es) h d).lit) < length lists
 code-opposite lists n h es d t below room =
     let x : Entry = get_or (reverse es) h d in
     let f : length es - 1 - h < length es = omega arith in
@@ -81,10 +82,28 @@ code-opposite lists n h es d t below room =
     let c : code (opposite x.lit) < 2 * x.lit.var.0 + 2 = code-le (opposite x.lit) in
     omega (arith, within, c)
 
+true_at : (n : ℕ) (es : List Entry) (i : ℕ) (d : Entry) → IsTrail n es → i < length es → IsTrueIn (values_of n es) (get_or es i d).lit
+true_at n [] i d t h = absurd (omega arith)
+true_at n (e ∷ es) zero d t h =
+    let len = length-values_of n es in
+    let inside : e.lit.var.0 < length (values_of n es) = rw len t.0 in
+    get_or-set_same (values_of n es) e.lit.var.0 (Some e.lit.yes) None inside
+true_at n (e ∷ es) (suc i) d t h = KeepsTrue-entry n es e t.1 (get_or es i d).lit (true_at n es i d t.2 (omega arith))
+
+not_not : (b : Bool) → b ≡ not (not b)
+not_not true = refl
+not_not false = refl
+
+-- the opposite of an entry is false
+pub false_at_head : (n h : ℕ) (es : List Entry) (d : Entry) → IsTrail n es → h < length es → IsFalseIn (values_of n es) (opposite (get_or (reverse es) h d).lit)
+false_at_head n h es d t below =
+    let f : length es - 1 - h < length es = omega arith in
+    rw (get_or-reverse es h d below) (true_at n es (length es - 1 - h) d t f ∙ ap Some (not_not (get_or es (length es - 1 - h) d).lit.yes))
+
 pub length-le-places : (n : ℕ) (es : List Entry) → IsTrail n es → length es ≤ n
 length-le-places n es t = let q = free_count-values_of n es t in omega (arith, q)
 
-pub IsWatched-visited : (s0 s2 : List (Option Kept)) (l0 l2 : List (List ℕ)) (pending : List ℕ) (n : ℕ) (e0 e2 : List Entry) (cs : List (Option (List Lit))) (marks : List Mark) (head done : ℕ) (d : Entry) → IsTrail n e0 → head < length e0 → done ≡ length pending → IsWatched s0 l0 pending n e0 marks (record { head = head; done = done }) → IsWatched s2 l2 pending n e2 marks (record { head = head; done = done }) → ((p q : List (Option Bool)) → IsNext p q (values_of n e0) (opposite (get_or (reverse e0) head d).lit) → AllWatched s0 p (values_of n e0) → AllWatched s2 q (values_of n e2)) → Grew cs n e0 e2 → IsWatched s2 l2 pending n e2 marks (record { head = head + 1; done = done })
+pub IsWatched-visited : (s0 s2 : List (Option Kept)) (l0 l2 : List (List Watcher)) (pending : List ℕ) (n : ℕ) (e0 e2 : List Entry) (cs : List (Option (List Lit))) (marks : List Mark) (head done : ℕ) (d : Entry) → IsTrail n e0 → head < length e0 → done ≡ length pending → IsWatched s0 l0 pending n e0 marks (record { head = head; done = done }) → IsWatched s2 l2 pending n e2 marks (record { head = head; done = done }) → ((p q : List (Option Bool)) → IsNext p q (values_of n e0) (opposite (get_or (reverse e0) head d).lit) → AllWatched s0 p (values_of n e0) → AllWatched s2 q (values_of n e2)) → Grew cs n e0 e2 → IsWatched s2 l2 pending n e2 marks (record { head = head + 1; done = done })
 IsWatched-visited s0 s2 l0 l2 pending n e0 e2 cs marks head done d t below none before after visited g =
     let start : AllWatched s0 (values_of n (older head e0)) (values_of n e0) = λ id k at. elim (before.now.guard id k at) [
       | inl waits ↦ absurd (let x = waits.1 in let y = waits.2 in omega arith)
@@ -103,7 +122,7 @@ IsWatched-visited s0 s2 l0 l2 pending n e0 e2 cs marks head done d t below none 
       listed = after.listed;
     }
 
-kept_from_clause : (slots : List (Option Kept)) (id : ℕ) (c : List Lit) → clause_at (clauses_of slots) id ≡ Some c → (k : Kept) × (kept_at slots id ≡ Some k) × (k.clause ≡ c)
+pub kept_from_clause : (slots : List (Option Kept)) (id : ℕ) (c : List Lit) → clause_at (clauses_of slots) id ≡ Some c → (k : Kept) × (kept_at slots id ≡ Some k) × (k.clause ≡ c)
 kept_from_clause [] id c h = absurd (let e : None ≡ Some c = h in cc)
 kept_from_clause (None ∷ ss) zero c h = absurd (let e : None ≡ Some c = h in cc)
 kept_from_clause (Some k ∷ ss) zero c h = (k, refl, let e : Some k.clause ≡ Some c = h in cc)

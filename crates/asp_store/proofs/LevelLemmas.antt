@@ -12,6 +12,7 @@ use Rattle.asp_store.specs.Store.{IsReason, IsStore, Grew, AreImplied}
 use Rattle.asp_store.proofs.StoreLemmas.{free_from_reason, within_from_reason, IsStore-implied, Grew-none, Grew-more}
 use Rattle.asp_store.specs.declared.choices.Kept.{Kept}
 use Rattle.asp_store.specs.declared.visits.Mark.{Mark}
+use Rattle.asp_store.specs.declared.watches.Watcher.{Watcher}
 use Rattle.asp_store.specs.Watch.{kept_at, clauses_of, older, WatchOk, LevelOk, LowerOk, IsWatched, IsBelow, AsGood, Grows, Rewatched, AllListed, Examined, ExaminedIfThere, Moved}
 use Rattle.asp_store.proofs.WatchLemmas.{FalseAt-below, LevelOk-changed, LevelOk-entry, LowerOk-implied, AllListed-changed, Listed-grows, Grows-same}
 
@@ -66,7 +67,7 @@ WatchOk-less b w = record {
   second = λ g. w.second (FalseAt-below b g);
 }
 
-pub LowerOk-changed : (slots next : List (Option Kept)) (lists lists' : List (List ℕ)) (pending : List ℕ) (n : ℕ) (es : List Entry) (marks : List Mark) (done id : ℕ) (k k' : Kept) → IsTrail n es → Rewatched slots next lists lists' id k k' → AsGood (values_of n es) k k' → LowerOk slots pending n es marks done → LowerOk next pending n es marks done
+pub LowerOk-changed : (slots next : List (Option Kept)) (lists lists' : List (List Watcher)) (pending : List ℕ) (n : ℕ) (es : List Entry) (marks : List Mark) (done id : ℕ) (k k' : Kept) → IsTrail n es → Rewatched slots next lists lists' id k k' → AsGood (values_of n es) k k' → LowerOk slots pending n es marks done → LowerOk next pending n es marks done
 LowerOk-changed slots next lists lists' pending n es marks done id k k' t c good h = record {
   levels = h.levels;
   lower = λ i d below.
@@ -80,7 +81,7 @@ level-implied : (e : Entry) (es : List Entry) (id : ℕ) → e.why ≡ Clause (r
 level-implied e es id why = ap (λ w. level_after w (level_of es)) why
 
 -- the levels below, after a look at a clause
-pub LowerOk-examined : (slots next : List (Option Kept)) (lists lists' : List (List ℕ)) (pending : List ℕ) (n : ℕ) (es es' : List Entry) (marks : List Mark) (done id : ℕ) → IsTrail n es → Examined slots next lists lists' n es es' id → LowerOk slots pending n es marks done → LowerOk next pending n es' marks done
+pub LowerOk-examined : (slots next : List (Option Kept)) (lists lists' : List (List Watcher)) (pending : List ℕ) (n : ℕ) (es es' : List Entry) (marks : List Mark) (done id : ℕ) → IsTrail n es → Examined slots next lists lists' n es es' id → LowerOk slots pending n es marks done → LowerOk next pending n es' marks done
 LowerOk-examined slots next lists lists' pending n es es' marks done id t x h =
     let low = LowerOk-changed slots next lists lists' pending n es marks done id x.before x.after t x.changed x.good h in
     elim x.grew [
@@ -89,7 +90,7 @@ LowerOk-examined slots next lists lists' pending n es es' marks done id t x h =
     ]
 
 -- a clause that waited was looked at
-pub LevelOk-waited : (slots next : List (Option Kept)) (lists lists' : List (List ℕ)) (pending : List ℕ) (n : ℕ) (es es' : List Entry) (head done id : ℕ) → IsTrail n es → IsTrail n es' → Examined slots next lists lists' n es es' id → done < length pending → get_or pending done 0 ≡ id → LevelOk slots pending n es (record { head = head; done = done }) → LevelOk next pending n es' (record { head = head; done = done + 1 })
+pub LevelOk-waited : (slots next : List (Option Kept)) (lists lists' : List (List Watcher)) (pending : List ℕ) (n : ℕ) (es es' : List Entry) (head done id : ℕ) → IsTrail n es → IsTrail n es' → Examined slots next lists lists' n es es' id → done < length pending → get_or pending done 0 ≡ id → LevelOk slots pending n es (record { head = head; done = done }) → LevelOk next pending n es' (record { head = head; done = done + 1 })
 LevelOk-waited slots next lists lists' pending n es es' head done id t t' x more here h =
     let m : Mark = record { head = head; done = done } in
     let mid = LevelOk-changed slots next lists lists' pending n es m id x.before x.after x.changed (x.good _ _ (IsBelow-top n head es t)) h in
@@ -137,19 +138,19 @@ LowerOk-later slots pending n es marks done done' le h = record {
   rising = h.rising;
 }
 
-pub AllListed-examined : (slots next : List (Option Kept)) (lists lists' : List (List ℕ)) (n : ℕ) (es es' : List Entry) (id : ℕ) → Examined slots next lists lists' n es es' id → AllListed slots lists → AllListed next lists'
+pub AllListed-examined : (slots next : List (Option Kept)) (lists lists' : List (List Watcher)) (n : ℕ) (es es' : List Entry) (id : ℕ) → Examined slots next lists lists' n es es' id → AllListed slots lists → AllListed next lists'
 AllListed-examined slots next lists lists' n es es' id x h =
     AllListed-changed slots next lists lists' id x.after x.changed.is_now x.changed.others x.changed.grows x.changed.placed x.changed.listed h
 
 -- the waiting clauses, one step on
-pub IsWatched-waited : (slots next : List (Option Kept)) (lists lists' : List (List ℕ)) (pending : List ℕ) (n : ℕ) (es es' : List Entry) (marks : List Mark) (head done id : ℕ) → IsTrail n es → IsTrail n es' → Examined slots next lists lists' n es es' id → done < length pending → get_or pending done 0 ≡ id → IsWatched slots lists pending n es marks (record { head = head; done = done }) → IsWatched next lists' pending n es' marks (record { head = head; done = done + 1 })
+pub IsWatched-waited : (slots next : List (Option Kept)) (lists lists' : List (List Watcher)) (pending : List ℕ) (n : ℕ) (es es' : List Entry) (marks : List Mark) (head done id : ℕ) → IsTrail n es → IsTrail n es' → Examined slots next lists lists' n es es' id → done < length pending → get_or pending done 0 ≡ id → IsWatched slots lists pending n es marks (record { head = head; done = done }) → IsWatched next lists' pending n es' marks (record { head = head; done = done + 1 })
 IsWatched-waited slots next lists lists' pending n es es' marks head done id t t' x more here h = record {
   now = LevelOk-waited slots next lists lists' pending n es es' head done id t t' x more here h.now;
   below = LowerOk-later next pending n es' marks done (done + 1) (omega arith) (LowerOk-examined slots next lists lists' pending n es es' marks done id t x h.below);
   listed = AllListed-examined slots next lists lists' n es es' id x h.listed;
 }
 
-pub IsWatched-absent : (slots : List (Option Kept)) (lists : List (List ℕ)) (pending : List ℕ) (n : ℕ) (es : List Entry) (marks : List Mark) (head done id : ℕ) → kept_at slots id ≡ None → done < length pending → get_or pending done 0 ≡ id → IsWatched slots lists pending n es marks (record { head = head; done = done }) → IsWatched slots lists pending n es marks (record { head = head; done = done + 1 })
+pub IsWatched-absent : (slots : List (Option Kept)) (lists : List (List Watcher)) (pending : List ℕ) (n : ℕ) (es : List Entry) (marks : List Mark) (head done id : ℕ) → kept_at slots id ≡ None → done < length pending → get_or pending done 0 ≡ id → IsWatched slots lists pending n es marks (record { head = head; done = done }) → IsWatched slots lists pending n es marks (record { head = head; done = done + 1 })
 IsWatched-absent slots lists pending n es marks head done id none more here h = record {
   now = LevelOk-absent slots pending n es head done id none more here h.now;
   below = LowerOk-later slots pending n es marks done (done + 1) (omega arith) h.below;
@@ -158,19 +159,19 @@ IsWatched-absent slots lists pending n es marks head done id none more here h = 
 
 -- many looks
 
-pub Moved-none : (slots : List (Option Kept)) (lists : List (List ℕ)) (n : ℕ) (es : List Entry) → AllListed slots lists → IsStore (clauses_of slots) es n → Moved slots slots lists lists n es es
+pub Moved-none : (slots : List (Option Kept)) (lists : List (List Watcher)) (n : ℕ) (es : List Entry) → AllListed slots lists → IsStore (clauses_of slots) es n → Moved slots slots lists lists n es es
 Moved-none slots lists n es h s = record { same_clauses = refl; listed = h; len = refl; store = s; grew = Grew-none (clauses_of slots) n es }
 
-AllListed-grows : (slots : List (Option Kept)) (lists lists' : List (List ℕ)) → Grows lists lists' → AllListed slots lists → AllListed slots lists'
+AllListed-grows : (slots : List (Option Kept)) (lists lists' : List (List Watcher)) → Grows lists lists' → AllListed slots lists → AllListed slots lists'
 AllListed-grows slots lists lists' g h j k at = let w = h j k at in (w.0, Listed-grows g w.1)
 
-pub Moved-grows : (slots slots' : List (Option Kept)) (lists lists' more : List (List ℕ)) (n : ℕ) (es es' : List Entry) → Grows lists' more → Moved slots slots' lists lists' n es es' → Moved slots slots' lists more n es es'
+pub Moved-grows : (slots slots' : List (Option Kept)) (lists lists' more : List (List Watcher)) (n : ℕ) (es es' : List Entry) → Grows lists' more → Moved slots slots' lists lists' n es es' → Moved slots slots' lists more n es es'
 Moved-grows slots slots' lists lists' more n es es' g m = record { same_clauses = m.same_clauses; listed = AllListed-grows slots' lists' more g m.listed; len = g.len ∙ m.len; store = m.store; grew = m.grew }
 
-pub IsWatched-grows : (slots : List (Option Kept)) (lists more : List (List ℕ)) (pending : List ℕ) (n : ℕ) (es : List Entry) (marks : List Mark) (top : Mark) → Grows lists more → IsWatched slots lists pending n es marks top → IsWatched slots more pending n es marks top
+pub IsWatched-grows : (slots : List (Option Kept)) (lists more : List (List Watcher)) (pending : List ℕ) (n : ℕ) (es : List Entry) (marks : List Mark) (top : Mark) → Grows lists more → IsWatched slots lists pending n es marks top → IsWatched slots more pending n es marks top
 IsWatched-grows slots lists more pending n es marks top g h = record { now = h.now; below = h.below; listed = AllListed-grows slots lists more g h.listed }
 
-pub Moved-examined : (s0 s1 s2 : List (Option Kept)) (l0 l1 l2 : List (List ℕ)) (n : ℕ) (e0 e1 e2 : List Entry) (id : ℕ) → Moved s0 s1 l0 l1 n e0 e1 → Examined s1 s2 l1 l2 n e1 e2 id → Moved s0 s2 l0 l2 n e0 e2
+pub Moved-examined : (s0 s1 s2 : List (Option Kept)) (l0 l1 l2 : List (List Watcher)) (n : ℕ) (e0 e1 e2 : List Entry) (id : ℕ) → Moved s0 s1 l0 l1 n e0 e1 → Examined s1 s2 l1 l2 n e1 e2 id → Moved s0 s2 l0 l2 n e0 e2
 Moved-examined s0 s1 s2 l0 l1 l2 n e0 e1 e2 id m x =
     let same : clauses_of s2 ≡ clauses_of s1 = x.changed.same_clauses in
     record {
@@ -189,32 +190,32 @@ Moved-examined s0 s1 s2 l0 l1 l2 n e0 e1 e2 id m x =
       ];
     }
 
-pub IsTrail-examined : (s1 s2 : List (Option Kept)) (l1 l2 : List (List ℕ)) (n : ℕ) (e1 e2 : List Entry) (id : ℕ) → IsStore (clauses_of s1) e1 n → IsTrail n e1 → Examined s1 s2 l1 l2 n e1 e2 id → IsTrail n e2
+pub IsTrail-examined : (s1 s2 : List (Option Kept)) (l1 l2 : List (List Watcher)) (n : ℕ) (e1 e2 : List Entry) (id : ℕ) → IsStore (clauses_of s1) e1 n → IsTrail n e1 → Examined s1 s2 l1 l2 n e1 e2 id → IsTrail n e2
 IsTrail-examined s1 s2 l1 l2 n e1 e2 id s t x = elim x.grew [
   | inl e ↦ subst (IsTrail n) (sym e) t
   | inr g ↦ subst (IsTrail n) (sym g.1) (within_from_reason n s.within g.3, free_from_reason g.3, t)
 ]
 
-pub Moved-stays : (s0 s1 s2 : List (Option Kept)) (l0 l1 l2 : List (List ℕ)) (n : ℕ) (e0 e1 e2 : List Entry) → Moved s0 s1 l0 l1 n e0 e1 → (s2 ≡ s1) × (e2 ≡ e1) → Grows l1 l2 → Moved s0 s2 l0 l2 n e0 e2
+pub Moved-stays : (s0 s1 s2 : List (Option Kept)) (l0 l1 l2 : List (List Watcher)) (n : ℕ) (e0 e1 e2 : List Entry) → Moved s0 s1 l0 l1 n e0 e1 → (s2 ≡ s1) × (e2 ≡ e1) → Grows l1 l2 → Moved s0 s2 l0 l2 n e0 e2
 Moved-stays s0 s1 s2 l0 l1 l2 n e0 e1 e2 m same g =
     subst (λ s. Moved s0 s l0 l2 n e0 e2) (sym same.0)
     (subst (λ q. Moved s0 s1 l0 l2 n e0 q) (sym same.1) (Moved-grows s0 s1 l0 l1 l2 n e0 e1 g m))
 
-pub IsWatched-stays : (s1 s2 : List (Option Kept)) (l1 l2 : List (List ℕ)) (pending : List ℕ) (n : ℕ) (e1 e2 : List Entry) (marks : List Mark) (top : Mark) → (s2 ≡ s1) × (e2 ≡ e1) → Grows l1 l2 → IsWatched s1 l1 pending n e1 marks top → IsWatched s2 l2 pending n e2 marks top
+pub IsWatched-stays : (s1 s2 : List (Option Kept)) (l1 l2 : List (List Watcher)) (pending : List ℕ) (n : ℕ) (e1 e2 : List Entry) (marks : List Mark) (top : Mark) → (s2 ≡ s1) × (e2 ≡ e1) → Grows l1 l2 → IsWatched s1 l1 pending n e1 marks top → IsWatched s2 l2 pending n e2 marks top
 IsWatched-stays s1 s2 l1 l2 pending n e1 e2 marks top same g h =
     subst (λ s. IsWatched s l2 pending n e2 marks top) (sym same.0)
     (subst (λ q. IsWatched s1 l2 pending n q marks top) (sym same.1) (IsWatched-grows s1 l1 l2 pending n e1 marks top g h))
 
-pub Grows-equal : (l1 l2 : List (List ℕ)) → l2 ≡ l1 → Grows l1 l2
+pub Grows-equal : (l1 l2 : List (List Watcher)) → l2 ≡ l1 → Grows l1 l2
 Grows-equal l1 l2 e = subst (λ l. Grows l1 l) (sym e) (Grows-same l1)
 
-pub Moved-there : (s0 s1 s2 : List (Option Kept)) (l0 l1 l2 : List (List ℕ)) (n : ℕ) (e0 e1 e2 : List Entry) (id : ℕ) → Moved s0 s1 l0 l1 n e0 e1 → ExaminedIfThere s1 s2 l1 l2 n e1 e2 id → Moved s0 s2 l0 l2 n e0 e2
+pub Moved-there : (s0 s1 s2 : List (Option Kept)) (l0 l1 l2 : List (List Watcher)) (n : ℕ) (e0 e1 e2 : List Entry) (id : ℕ) → Moved s0 s1 l0 l1 n e0 e1 → ExaminedIfThere s1 s2 l1 l2 n e1 e2 id → Moved s0 s2 l0 l2 n e0 e2
 Moved-there s0 s1 s2 l0 l1 l2 n e0 e1 e2 id m x = elim x [
   | inl same ↦ Moved-stays s0 s1 s2 l0 l1 l2 n e0 e1 e2 m (same.1, same.3) (Grows-equal l1 l2 same.2)
   | inr y ↦ Moved-examined s0 s1 s2 l0 l1 l2 n e0 e1 e2 id m y
 ]
 
-pub IsWatched-there : (s1 s2 : List (Option Kept)) (l1 l2 : List (List ℕ)) (pending : List ℕ) (n : ℕ) (e1 e2 : List Entry) (marks : List Mark) (head done id : ℕ) → IsStore (clauses_of s1) e1 n → IsTrail n e1 → ExaminedIfThere s1 s2 l1 l2 n e1 e2 id → done < length pending → get_or pending done 0 ≡ id → IsWatched s1 l1 pending n e1 marks (record { head = head; done = done }) → IsWatched s2 l2 pending n e2 marks (record { head = head; done = done + 1 })
+pub IsWatched-there : (s1 s2 : List (Option Kept)) (l1 l2 : List (List Watcher)) (pending : List ℕ) (n : ℕ) (e1 e2 : List Entry) (marks : List Mark) (head done id : ℕ) → IsStore (clauses_of s1) e1 n → IsTrail n e1 → ExaminedIfThere s1 s2 l1 l2 n e1 e2 id → done < length pending → get_or pending done 0 ≡ id → IsWatched s1 l1 pending n e1 marks (record { head = head; done = done }) → IsWatched s2 l2 pending n e2 marks (record { head = head; done = done + 1 })
 IsWatched-there s1 s2 l1 l2 pending n e1 e2 marks head done id s t x more here h = elim x [
   | inl same ↦
       IsWatched-stays s1 s2 l1 l2 pending n e1 e2 marks (record { head = head; done = done + 1 }) (same.1, same.3) (Grows-equal l1 l2 same.2)
@@ -234,7 +235,7 @@ Grew-trans cs n e0 e1 e2 g h = record {
   implied = AreImplied-append cs n e0 g.more h.more g.implied (subst (λ q. AreImplied cs n q h.more) g.new_is h.implied);
 }
 
-pub Moved-trans : (s0 s1 s2 : List (Option Kept)) (l0 l1 l2 : List (List ℕ)) (n : ℕ) (e0 e1 e2 : List Entry) → Moved s0 s1 l0 l1 n e0 e1 → Moved s1 s2 l1 l2 n e1 e2 → Moved s0 s2 l0 l2 n e0 e2
+pub Moved-trans : (s0 s1 s2 : List (Option Kept)) (l0 l1 l2 : List (List Watcher)) (n : ℕ) (e0 e1 e2 : List Entry) → Moved s0 s1 l0 l1 n e0 e1 → Moved s1 s2 l1 l2 n e1 e2 → Moved s0 s2 l0 l2 n e0 e2
 Moved-trans s0 s1 s2 l0 l1 l2 n e0 e1 e2 a b = record {
   same_clauses = b.same_clauses ∙ a.same_clauses;
   listed = b.listed;

@@ -4,6 +4,7 @@ pub mod HeadLemmas
 pub mod KeepLemmas
 pub mod LevelLemmas
 pub mod PlaceLemmas
+pub mod RefuteLemmas
 pub mod RoundLemmas
 pub mod StoreLemmas
 pub mod SweepLemmas

@@ -1,13 +1,16 @@
 -- What keeps the facts that are true of every store.
 use Rattle.std.proofs.Common.{◌≡◌, ℕ, zero, suc, ◌+◌, ◌-◌, ◌<◌, ◌≤◌, ◌≢◌, inl, inr, Bool, List, [], ◌∷◌, length, Option, Some, None, get_or, refl, ap, sym, ◌∙◌, subst, arith, cond, nat_le, true, false}
 use Rattle.std.proofs.lemmas.Bool.{cases_eq, cases_lt}
+use Rattle.std.proofs.lemmas.Bool.Decides.{eqb_tells}
+use Rattle.std.proofs.Common.{suc, eq-eqb}
+use Rattle.std.specs.Prelude.{Any}
 use Rattle.std.specs.Cmp.{nat_cmp_is}
 use Rattle.std.specs.Ordering.{ordering_then, bool_cmp}
 use Rattle.std.specs.declared.cmp.Ordering.TheVariants.{Less, Greater}
 use Rattle.std.specs.Prelude.{slice_get}
 use Rattle.std.proofs.lemmas.Option.{get_or_from_slice_get, slice_get_within}
-use Rattle.std.proofs.Common.{max, replicate, reverse, IsTrue, ◌↔◌}
-use Rattle.std.proofs.lemmas.List.{get_or-reverse, length-reverse, get_or_default}
+use Rattle.std.proofs.Common.{max, replicate, IsTrue, ◌↔◌}
+use Rattle.std.proofs.lemmas.List.{get_or_default}
 use Rattle.std.proofs.lemmas.List.{get_or_append_left, get_or-append_right, get_or_past}
 use Rattle.theory_form.specs.declared.literals.Lit.{Lit}
 use Rattle.theory_form.specs.Literals.{IsAscending, lit_cmp}
@@ -15,9 +18,9 @@ use Rattle.theory_form.specs.Truth.{value_of, IsFreeIn, FreeAt, FalseAt}
 use Rattle.asp_trail.specs.declared.Entry.{Entry}
 use Rattle.asp_trail.specs.declared.Why.{Why}
 use Rattle.asp_trail.specs.declared.Why.TheVariants.{Decision, Clause}
-use Rattle.asp_trail.specs.Trail.{values_of, level_of, back, IsTrail}
-use Rattle.asp_trail.proofs.TrailLemmas.{room_from_free, length-values_of, values_of-grown, get_or-replicate_none}
-use Rattle.asp_store.specs.Store.{clause_at, IsReason, HasReason, HasReasons, AllWithin, IsWithin, IsStore, Grew, Keeps, IsImpliedBy, Adds, AllAscending, places_of, Removes, IsReasonOfSome}
+use Rattle.asp_trail.specs.Trail.{values_of, level_of, why_in, back, IsTrail}
+use Rattle.asp_trail.proofs.TrailLemmas.{why_in-free, room_from_free, length-values_of, values_of-grown, get_or-replicate_none}
+use Rattle.asp_store.specs.Store.{clause_at, IsReason, HasReason, HasReasons, AllWithin, IsWithin, IsStore, Grew, Keeps, IsImpliedBy, Adds, AllAscending, places_of, Removes, IsReasonOfSome, IsBecauseOf}
 
 pub within_from_reason : {cs : List (Option (List Lit))} {a : List (Option Bool)} {l : Lit} {id : ℕ} (n : ℕ) → AllWithin cs n → IsReason cs a l id → l.var.0 < n
 within_from_reason {l = l} {id = id} n h r =
@@ -209,14 +212,8 @@ reasons_left cs ds id n others (e ∷ es) none h = (
   reasons_left cs ds id n others es (λ i d below. none (suc i) d (omega arith)) h.1,
 )
 
-no_reason : (es : List Entry) (id : ℕ) → (IsReasonOfSome (reverse es) id → ⊥) → (i : ℕ) (d : Entry) → i < length es → (get_or es i d).why ≢ Clause (record { 0 = id })
-no_reason es id none i d below e =
-    let k : ℕ = length es - 1 - i in
-    let len = length-reverse es in
-    let back : length es - 1 - k ≡ i = omega arith in
-    let x : Entry = get_or es i d in
-    let is : get_or (reverse es) k d ≡ x = get_or-reverse es k d (omega arith) ∙ ap (λ j. get_or es j d) back in
-    none (k, x, omega (arith, len), get_or_default (reverse es) k x d (omega (arith, len)) ∙ is, e)
+no_reason : (es : List Entry) (id : ℕ) → (IsReasonOfSome es id → ⊥) → (i : ℕ) (d : Entry) → i < length es → (get_or es i d).why ≢ Clause (record { 0 = id })
+no_reason es id none i d below e = none (i, get_or es i d, below, get_or_default es i (get_or es i d) d below, e)
 
 left_clause : (cs ds : List (Option (List Lit))) (id j : ℕ) (c : List Lit) → Removes cs ds id → clause_at ds j ≡ Some c → clause_at cs j ≡ Some c
 left_clause cs ds id j c h at = elim (cases_eq j id) [
@@ -224,7 +221,7 @@ left_clause cs ds id j c h at = elim (cases_eq j id) [
   | inr ne ↦ sym (h.others j ne) ∙ at
 ]
 
-pub IsStore-removes : (cs ds : List (Option (List Lit))) (id n : ℕ) (es : List Entry) → Removes cs ds id → (IsReasonOfSome (reverse es) id → ⊥) → IsStore cs es n → IsStore ds es n
+pub IsStore-removes : (cs ds : List (Option (List Lit))) (id n : ℕ) (es : List Entry) → Removes cs ds id → (IsReasonOfSome es id → ⊥) → IsStore cs es n → IsStore ds es n
 IsStore-removes cs ds id n es h none s = record {
   within = λ j c at. s.within j c (left_clause cs ds id j c h at);
   ascending = λ j c at. s.ascending j c (left_clause cs ds id j c h at);
@@ -234,3 +231,64 @@ IsStore-removes cs ds id n es h none s = record {
 -- the test says that there is none
 pub none_from_test : (b : Bool) (P : Type 0) → b ≡ false → IsTrue b ↔ P → P → ⊥
 none_from_test b P f h p = let t = h.1 p in let e : true ≡ false = sym t ∙ f in cc
+
+-- the clause of a key is a reason exactly where one of its variables was assigned because of it
+
+why_here : (e : Entry) (es : List Entry) → why_in (e ∷ es) e.lit.var.0 ≡ Some (e.why, level_of (e ∷ es))
+why_here e es = let b = eq-eqb e.lit.var.0 e.lit.var.0 refl in rw b refl
+
+because_later : (n : ℕ) (e : Entry) (es : List Entry) (v id : ℕ) → IsTrail n (e ∷ es) → IsBecauseOf es v id → IsBecauseOf (e ∷ es) v id
+because_later n e es v id t b = elim (eqb_tells e.lit.var.0 v) [
+  | inl same ↦
+      let none : why_in es e.lit.var.0 ≡ None = why_in-free n e.lit.var.0 es t.2 t.1 in
+      absurd (let z : None ≡ Some (Clause (record { 0 = id }), b.0) = sym none ∙ (ap (why_in es) same.1 ∙ b.1) in cc)
+  | inr other ↦ let f = other.0 in (b.0, rw f b.1)
+]
+
+because_from_entry : (cs : List (Option (List Lit))) (n id : ℕ) (c : List Lit) (es : List Entry) (i : ℕ) (d : Entry) → clause_at cs id ≡ Some c → HasReasons cs n es → IsTrail n es → i < length es → (get_or es i d).why ≡ Clause (record { 0 = id }) → Any (λ l. IsBecauseOf es l.var.0 id) c
+because_from_entry cs n id c [] i d at h t below why = absurd (omega arith)
+because_from_entry cs n id c (e ∷ es) zero d at h t below why =
+    let r : IsReason cs (values_of n es) e.lit id = subst (HasReason cs (values_of n es) e.lit) why h.0 in
+    let q : Some r.clause ≡ Some c = sym r.stored ∙ at in
+    let same : r.clause ≡ c = cc in
+    let within = r.unit.free.within in
+    let is : get_or c r.place e.lit ≡ e.lit = subst (λ xs. get_or xs r.place e.lit ≡ e.lit) same (r.lit_is e.lit) in
+    (r.place, e.lit, subst (λ xs. r.place < length xs) same within, is, (level_of (e ∷ es), why_here e es ∙ ap (λ w. Some (w, level_of (e ∷ es))) why))
+because_from_entry cs n id c (e ∷ es) (suc i) d at h t below why =
+    let r = because_from_entry cs n id c es i d at h.1 t.2 (omega arith) why in
+    (r.0, r.1, r.2, r.3, because_later n e es r.1.var.0 id t r.4)
+
+-- why, where there is one
+abbrev why_of : Why → Option (Why × ℕ) → Why
+why_of d None = d
+why_of d (Some reason) = reason.0
+
+pub entry_from_because : (es : List Entry) (v id : ℕ) → IsBecauseOf es v id → IsReasonOfSome es id
+entry_from_because [] v id b = absurd (let z : None ≡ Some (Clause (record { 0 = id }), b.0) = b.1 in cc)
+entry_from_because (e ∷ es) v id b = elim (eqb_tells e.lit.var.0 v) [
+  | inl same ↦
+      let f = same.0 in
+      let q : Some (e.why, level_of (e ∷ es)) ≡ Some (Clause (record { 0 = id }), b.0) = rw f at b.1 in
+      let why : e.why ≡ Clause (record { 0 = id }) = ap (why_of e.why) q in
+      (0, e, omega arith, refl, why)
+  | inr other ↦
+      let f = other.0 in
+      let r = entry_from_because es v id (b.0, rw f at b.1) in
+      let w = r.2 in
+      (suc r.0, r.1, omega (arith, w), r.3, r.4)
+]
+
+pub reason_test : (cs : List (Option (List Lit))) (n id : ℕ) (c : List Lit) (es : List Entry) → clause_at cs id ≡ Some c → HasReasons cs n es → IsTrail n es → Any (λ l. IsBecauseOf es l.var.0 id) c ↔ IsReasonOfSome es id
+reason_test cs n id c es at h t = (
+  λ b. entry_from_because es b.1.var.0 id b.4,
+  λ r. because_from_entry cs n id c es r.0 r.1 at h t r.2 (ap (λ (e : Entry). e.why) r.3 ∙ r.4),
+)
+
+-- no entry has a reason that is not stored
+pub none_without : (cs : List (Option (List Lit))) (n id : ℕ) (es : List Entry) → clause_at cs id ≡ None → HasReasons cs n es → IsReasonOfSome es id → ⊥
+none_without cs n id [] gone h r = absurd (let w = r.2 in omega (arith, w))
+none_without cs n id (e ∷ es) gone h (zero, x, below, is, why) =
+    let w : e.why ≡ Clause (record { 0 = id }) = ap (λ (y : Entry). y.why) is ∙ why in
+    let r : IsReason cs (values_of n es) e.lit id = subst (HasReason cs (values_of n es) e.lit) w h.0 in
+    absurd (let z : None ≡ Some r.clause = sym gone ∙ r.stored in cc)
+none_without cs n id (e ∷ es) gone h (suc i, x, below, is, why) = none_without cs n id es gone h.1 (i, x, omega arith, is, why)

@@ -1,5 +1,7 @@
 -- What keeps the watched places well.
 use Rattle.std.proofs.Common.{◌≡◌, ℕ, suc, ◌+◌, ◌-◌, ◌<◌, ◌≤◌, ◌≢◌, ◌⊎◌, inl, inr, ◌++◌, Bool, true, false, not, List, [], ◌∷◌, length, Option, Some, None, get_or, set, take, drop, refl, ap, sym, ◌∙◌, subst, arith, length-append, length-set}
+use Rattle.std.specs.List.{Contains}
+use Rattle.std.proofs.lemmas.List.Elements.{Contains-get_or}
 use Rattle.std.proofs.lemmas.Bool.{cases_eq, cases_lt}
 use Rattle.std.proofs.lemmas.List.{get_or-set_same, get_or-set_other, get_or_append_left, get_or_push, get_or-take, get_or_default, length-take-le}
 use Rattle.theory_form.proofs.LookLemmas.{TrueAt-read, FalseAt-read, FreeAt-read}
@@ -12,8 +14,9 @@ use Rattle.asp_trail.specs.Trail.{values_of, level_of, level_after, back}
 use Rattle.asp_trail.proofs.TrailLemmas.{back-done, back-step}
 use Rattle.asp_store.specs.declared.choices.Kept.{Kept}
 use Rattle.asp_store.specs.declared.visits.Mark.{Mark}
-use Rattle.asp_store.specs.Watch.{kept_at, list_at, code, InFrom, older, WatchOk, Listed, LevelOk, IsWatched, LowerOk, IsBelow, ChoiceOk, IsPlaced, Grows, Rewatched, AllListed}
-use Rattle.asp_store.specs.declared.choices.Choice.TheVariants.{Watch, Assign}
+use Rattle.asp_store.specs.declared.watches.Watcher.{Watcher}
+use Rattle.asp_store.specs.Watch.{kept_at, list_at, code, HasTrue, HasWatcher, InFrom, older, WatchOk, Listed, LevelOk, IsWatched, LowerOk, IsBelow, ChoiceOk, IsPlaced, Grows, Rewatched, AllListed}
+use Rattle.asp_store.specs.declared.choices.Choice.TheVariants.{Stay, Watch, Assign}
 
 -- what is true stays true under another assignment
 abbrev pub KeepsTrue : List (Option Bool) → List (Option Bool) → Type 0
@@ -22,14 +25,21 @@ KeepsTrue a b = (l : Lit) → IsTrueIn a l → IsTrueIn b l
 pub TrueAt-kept : {a b : List (Option Bool)} {c : List Lit} {i : ℕ} → KeepsTrue a b → TrueAt a c i → TrueAt b c i
 TrueAt-kept {c = c} {i = i} s h = record { within = h.within; holds = λ d. s (get_or c i d) (h.holds d) }
 
+pub HasTrue-kept : {a b : List (Option Bool)} {c : List Lit} → KeepsTrue a b → HasTrue a c → HasTrue b c
+HasTrue-kept s h = (h.0, TrueAt-kept s h.1)
+
 pub WatchOk-kept : {p t u : List (Option Bool)} {k : Kept} → KeepsTrue t u → WatchOk p t k → WatchOk p u k
 WatchOk-kept s h = record {
   within_first = h.within_first;
   within_second = h.within_second;
-  apart = elim h.apart [ inl a ↦ inl a | inr b ↦ inr (TrueAt-kept s b) ];
-  first = λ f. TrueAt-kept s (h.first f);
-  second = λ f. TrueAt-kept s (h.second f);
+  apart = elim h.apart [ inl a ↦ inl a | inr b ↦ inr (HasTrue-kept s b) ];
+  first = λ f. HasTrue-kept s (h.first f);
+  second = λ f. HasTrue-kept s (h.second f);
 }
+
+-- where a literal is true, the watched places do not matter
+pub WatchOk-true : (p t : List (Option Bool)) (k : Kept) → k.first < length k.clause → k.second < length k.clause → HasTrue t k.clause → WatchOk p t k
+WatchOk-true p t k f s h = record { within_first = f; within_second = s; apart = inr h; first = λ g. h; second = λ g. h }
 
 -- one more entry keeps what is true
 pub KeepsTrue-entry : (n : ℕ) (es : List Entry) (e : Entry) → IsFreeIn (values_of n es) e.lit → KeepsTrue (values_of n es) (values_of n (e ∷ es))
@@ -65,7 +75,7 @@ LowerOk-implied slots pending n es marks done e level h = record {
   rising = h.rising;
 }
 
-pub IsWatched-implied : (slots : List (Option Kept)) (lists : List (List ℕ)) (pending : List ℕ) (n : ℕ) (es : List Entry) (marks : List Mark) (top : Mark) (e : Entry) → IsFreeIn (values_of n es) e.lit → level_of (e ∷ es) ≡ level_of es → IsWatched slots lists pending n es marks top → IsWatched slots lists pending n (e ∷ es) marks top
+pub IsWatched-implied : (slots : List (Option Kept)) (lists : List (List Watcher)) (pending : List ℕ) (n : ℕ) (es : List Entry) (marks : List Mark) (top : Mark) (e : Entry) → IsFreeIn (values_of n es) e.lit → level_of (e ∷ es) ≡ level_of es → IsWatched slots lists pending n es marks top → IsWatched slots lists pending n (e ∷ es) marks top
 IsWatched-implied slots lists pending n es marks top e free level h = record {
   now = LevelOk-entry slots pending n es top e free h.now;
   below = LowerOk-implied slots pending n es marks top.done e level h.below;
@@ -73,7 +83,7 @@ IsWatched-implied slots lists pending n es marks top e free level h = record {
 }
 
 -- a decision, with the mark of the level that was the top one
-pub IsWatched-decided : (slots : List (Option Kept)) (lists : List (List ℕ)) (pending : List ℕ) (n : ℕ) (es : List Entry) (marks : List Mark) (top : Mark) (e : Entry) → IsFreeIn (values_of n es) e.lit → level_of (e ∷ es) ≡ level_of es + 1 → IsWatched slots lists pending n es marks top → IsWatched slots lists pending n (e ∷ es) (marks ++ top ∷ []) top
+pub IsWatched-decided : (slots : List (Option Kept)) (lists : List (List Watcher)) (pending : List ℕ) (n : ℕ) (es : List Entry) (marks : List Mark) (top : Mark) (e : Entry) → IsFreeIn (values_of n es) e.lit → level_of (e ∷ es) ≡ level_of es + 1 → IsWatched slots lists pending n es marks top → IsWatched slots lists pending n (e ∷ es) (marks ++ top ∷ []) top
 IsWatched-decided slots lists pending n es marks top e free level h = record {
   now = LevelOk-entry slots pending n es top e free h.now;
   below = record {
@@ -132,7 +142,7 @@ level-back k (e ∷ es) h = elim (cases_lt k (level_of (e ∷ es))) [
   | inr within ↦ ap level_of (back-done k (e ∷ es) within) ∙ omega arith
 ]
 
-pub IsWatched-back : (slots : List (Option Kept)) (lists : List (List ℕ)) (pending : List ℕ) (n : ℕ) (es : List Entry) (marks : List Mark) (top : Mark) (k : ℕ) (d : Mark) → k < length marks → IsWatched slots lists pending n es marks top → IsWatched slots lists pending n (back k es) (take k marks) (get_or marks k d)
+pub IsWatched-back : (slots : List (Option Kept)) (lists : List (List Watcher)) (pending : List ℕ) (n : ℕ) (es : List Entry) (marks : List Mark) (top : Mark) (k : ℕ) (d : Mark) → k < length marks → IsWatched slots lists pending n es marks top → IsWatched slots lists pending n (back k es) (take k marks) (get_or marks k d)
 IsWatched-back slots lists pending n es marks top k d below h =
     let len : length (take k marks) ≡ k = length-take-le k marks (omega arith) in
     record {
@@ -155,16 +165,13 @@ IsWatched-back slots lists pending n es marks top k d below h =
 
 -- clauses in their lists
 
-pub Grows-keeps : {lists lists' : List (List ℕ)} → Grows lists lists' → (c from id : ℕ) → InFrom (list_at lists c) from id → InFrom (list_at lists' c) from id
-Grows-keeps g c from id h = let q = g.longer c in let w = h.2 in (h.0, h.1, omega arith, g.stable c h.0 h.2 ∙ h.3)
-
-pub Listed-grows : {lists lists' : List (List ℕ)} {id : ℕ} {k : Kept} → Grows lists lists' → Listed lists id k → Listed lists' id k
+pub Listed-grows : {lists lists' : List (List Watcher)} {id : ℕ} {k : Kept} → Grows lists lists' → Listed lists id k → Listed lists' id k
 Listed-grows {id = id} {k = k} g h = record {
-  first = λ d within. Grows-keeps g (code (get_or k.clause k.first d)) 0 id (h.first d within);
-  second = λ d within. Grows-keeps g (code (get_or k.clause k.second d)) 0 id (h.second d within);
+  first = λ d within. g.kept (code (get_or k.clause k.first d)) id k.clause (h.first d within);
+  second = λ d within. g.kept (code (get_or k.clause k.second d)) id k.clause (h.second d within);
 }
 
-pub AllListed-changed : (slots next : List (Option Kept)) (lists lists' : List (List ℕ)) (id : ℕ) (k : Kept) → kept_at next id ≡ Some k → ((j : ℕ) → j ≢ id → kept_at next j ≡ kept_at slots j) → Grows lists lists' → IsPlaced k → Listed lists' id k → AllListed slots lists → AllListed next lists'
+pub AllListed-changed : (slots next : List (Option Kept)) (lists lists' : List (List Watcher)) (id : ℕ) (k : Kept) → kept_at next id ≡ Some k → ((j : ℕ) → j ≢ id → kept_at next j ≡ kept_at slots j) → Grows lists lists' → IsPlaced k → Listed lists' id k → AllListed slots lists → AllListed next lists'
 AllListed-changed slots next lists lists' id k is_now others grows placed listed h j x at = elim (cases_eq j id) [
   | inl same ↦
       let e : Some k ≡ Some x = sym is_now ∙ (ap (λ i. kept_at next i) (sym same) ∙ at) in
@@ -190,7 +197,7 @@ LevelOk-add slots next pending n es m id others h =
       done_in = let q = h.done_in in omega (arith, len);
     }
 
-pub IsWatched-add : (slots next : List (Option Kept)) (lists : List (List ℕ)) (pending : List ℕ) (n : ℕ) (es : List Entry) (marks : List Mark) (top : Mark) (lists' : List (List ℕ)) (id : ℕ) (k : Kept) → kept_at next id ≡ Some k → ((j : ℕ) → j ≢ id → kept_at next j ≡ kept_at slots j) → Grows lists lists' → IsPlaced k → Listed lists' id k → IsWatched slots lists pending n es marks top → IsWatched next lists' (pending ++ id ∷ []) n es marks top
+pub IsWatched-add : (slots next : List (Option Kept)) (lists : List (List Watcher)) (pending : List ℕ) (n : ℕ) (es : List Entry) (marks : List Mark) (top : Mark) (lists' : List (List Watcher)) (id : ℕ) (k : Kept) → kept_at next id ≡ Some k → ((j : ℕ) → j ≢ id → kept_at next j ≡ kept_at slots j) → Grows lists lists' → IsPlaced k → Listed lists' id k → IsWatched slots lists pending n es marks top → IsWatched next lists' (pending ++ id ∷ []) n es marks top
 IsWatched-add slots next lists pending n es marks top lists' id k is_now others grows placed listed h = record {
   now = LevelOk-add slots next pending n es top id others h.now;
   below = record {
@@ -214,7 +221,7 @@ LevelOk-forget slots next pending n es m id gone others h = record {
   done_in = h.done_in;
 }
 
-pub IsWatched-forget : (slots next : List (Option Kept)) (lists : List (List ℕ)) (pending : List ℕ) (n : ℕ) (es : List Entry) (marks : List Mark) (top : Mark) (id : ℕ) → kept_at next id ≡ None → ((j : ℕ) → j ≢ id → kept_at next j ≡ kept_at slots j) → IsWatched slots lists pending n es marks top → IsWatched next lists pending n es marks top
+pub IsWatched-forget : (slots next : List (Option Kept)) (lists : List (List Watcher)) (pending : List ℕ) (n : ℕ) (es : List Entry) (marks : List Mark) (top : Mark) (id : ℕ) → kept_at next id ≡ None → ((j : ℕ) → j ≢ id → kept_at next j ≡ kept_at slots j) → IsWatched slots lists pending n es marks top → IsWatched next lists pending n es marks top
 IsWatched-forget slots next lists pending n es marks top id gone others h = record {
   now = LevelOk-forget slots next pending n es top id gone others h.now;
   below = record {
@@ -254,12 +261,12 @@ pub IsSettled-watched : (a : List (Option Bool)) (k : Kept) (d : Lit) → WatchO
 IsSettled-watched a k d w = elim (TruthAt-cases a k.clause k.first d w.within_first) [
   | inl t ↦ inl (k.first, t)
   | inr f ↦ elim f [
-    | inl g ↦ inl (k.second, w.first g)
+    | inl g ↦ inl (w.first g)
     | inr g ↦ elim (TruthAt-cases a k.clause k.second d w.within_second) [
       | inl t ↦ inl (k.second, t)
       | inr f' ↦ elim f' [
-        | inl g' ↦ inl (k.first, w.second g')
-        | inr g' ↦ elim w.apart [ inl ne ↦ TwoFree-cases a k.clause k.first k.second ne g g' | inr t ↦ inl (k.first, t) ]
+        | inl g' ↦ inl (w.second g')
+        | inr g' ↦ elim w.apart [ inl ne ↦ TwoFree-cases a k.clause k.first k.second ne g g' | inr t ↦ inl t ]
       ]
     ]
   ]
@@ -295,15 +302,6 @@ FalseAt-below {c = c} {i = i} s h = record { within = h.within; holds = λ d. s.
 pub TrueAt-below : {p t now : List (Option Bool)} {c : List Lit} {i : ℕ} → IsBelow p t now → TrueAt t c i → TrueAt now c i
 TrueAt-below {c = c} {i = i} s h = record { within = h.within; holds = λ d. s.trues (get_or c i d) (h.holds d) }
 
-pub Stay-true : (a : List (Option Bool)) (k : Kept) (d : Lit) → k.first < length k.clause → k.second < length k.clause → TrueAt a k.clause k.first ⊎ TrueAt a k.clause k.second → (k.first ≢ k.second) ⊎ TrueAt a k.clause k.first → WatchOk a a k
-Stay-true a k d f s t ap' = record {
-  within_first = f;
-  within_second = s;
-  apart = ap';
-  first = λ g. elim t [ inl x ↦ absurd (true_false d x g) | inr x ↦ x ];
-  second = λ g. elim t [ inl x ↦ x | inr x ↦ absurd (true_false d x g) ];
-}
-
 pub Stay-free : (a : List (Option Bool)) (k : Kept) (d : Lit) → FreeAt a k.clause k.first → FreeAt a k.clause k.second → k.first ≢ k.second → WatchOk a a k
 Stay-free a k d f s ne = record {
   within_first = f.within;
@@ -313,24 +311,12 @@ Stay-free a k d f s ne = record {
   second = λ g. absurd (free_false d s g);
 }
 
--- a place whose literal is true now, beside the second one
-pub ChoiceOk-true : (a : List (Option Bool)) (k : Kept) (d : Lit) (j : ℕ) → k.second < length k.clause → (TrueAt a k.clause k.first → ⊥) → (TrueAt a k.clause k.second → ⊥) → TrueAt a k.clause j → ChoiceOk a k (Watch j k.second)
-ChoiceOk-true a k d j s nf ns t = (
-  record {
-    within_first = t.within;
-    within_second = s;
-    apart = inr t;
-    first = λ g. absurd (true_false d t g);
-    second = λ g. t;
-  },
-  λ p u under w. record {
-    within_first = t.within;
-    within_second = s;
-    apart = inl (λ e. ns (subst (λ i. TrueAt a k.clause i) e t));
-    first = λ g. absurd (true_false d t (FalseAt-below under g));
-    second = λ g. absurd (nf (TrueAt-below under (w.second g)));
-  },
-)
+-- a literal that is true now
+pub ChoiceOk-true : (a : List (Option Bool)) (k : Kept) (j : ℕ) → k.first < length k.clause → k.second < length k.clause → TrueAt a k.clause j → ChoiceOk a k (Stay j)
+ChoiceOk-true a k j f s t = (WatchOk-true a a k f s (j, t), t.within)
+
+pub HasTrue-below : {p t now : List (Option Bool)} {c : List Lit} → IsBelow p t now → HasTrue t c → HasTrue now c
+HasTrue-below s h = (h.0, TrueAt-below s h.1)
 
 pub ChoiceOk-free : (a : List (Option Bool)) (k : Kept) (d : Lit) (i j : ℕ) → i ≢ j → FreeAt a k.clause i → FreeAt a k.clause j → ChoiceOk a k (Watch i j)
 ChoiceOk-free a k d i j apart f g = (
@@ -342,6 +328,7 @@ ChoiceOk-free a k d i j apart f g = (
     first = λ h. absurd (free_false d f (FalseAt-below under h));
     second = λ h. absurd (free_false d g (FalseAt-below under h));
   },
+  (inr f, inr g),
 )
 
 pub ChoiceOk-wide : (a : List (Option Bool)) (k : Kept) (d : Lit) (i j : ℕ) → TwoFree a k.clause i j → ChoiceOk a k (Watch i j)
@@ -351,8 +338,15 @@ ChoiceOk-wide a k d i j h = ChoiceOk-free a k d i j (let q = h.before in λ e. o
 pub FreeAt-one : (a : List (Option Bool)) (c : List Lit) (i j r : ℕ) → TwoFree a c i j → (r ≡ i) ⊎ (r ≡ j) → FreeAt a c r
 FreeAt-one a c i j r h one = elim one [ inl e ↦ subst (FreeAt a c) (sym e) h.first | inr e ↦ subst (FreeAt a c) (sym e) h.second ]
 
-pub ChoiceOk-single : (a : List (Option Bool)) (k : Kept) (d : Lit) (i : ℕ) → k.second < length k.clause → (TrueAt a k.clause k.first → ⊥) → i ≢ k.second → IsUnitAt a k.clause i → ChoiceOk a k (Assign i i k.second)
-ChoiceOk-single a k d i s nf other u = (
+-- a clause that is unit has no true literal
+unit_not_true : (a : List (Option Bool)) (c : List Lit) (d : Lit) (i : ℕ) → IsUnitAt a c i → HasTrue a c → ⊥
+unit_not_true a c d i u h = elim (cases_eq h.0 i) [
+  | inl same ↦ true_free d h.1 (subst (FreeAt a c) (sym same) u.free)
+  | inr other ↦ true_false d h.1 (u.rest h.0 h.1.within other)
+]
+
+pub ChoiceOk-single : (a : List (Option Bool)) (k : Kept) (d : Lit) (i : ℕ) → k.second < length k.clause → i ≢ k.second → IsUnitAt a k.clause i → ChoiceOk a k (Assign i i k.second)
+ChoiceOk-single a k d i s other u = (
   u,
   inl refl,
   u.free.within,
@@ -362,16 +356,17 @@ ChoiceOk-single a k d i s nf other u = (
     within_second = s;
     apart = inl other;
     first = λ g. absurd (free_false d u.free (FalseAt-below under g));
-    second = λ g. absurd (nf (TrueAt-below under (w.second g)));
+    second = λ g. absurd (unit_not_true a k.clause d i u (HasTrue-below under (w.second g)));
   },
+  (inr u.free, inl refl),
 )
 
 pub ChoiceOk-same : (a : List (Option Bool)) (k : Kept) (i : ℕ) → k.first < length k.clause → k.second < length k.clause → i ≡ k.second → IsUnitAt a k.clause i → ChoiceOk a k (Assign i k.first k.second)
-ChoiceOk-same a k i f s same u = (u, inr (sym same), f, s, λ p t under w. w)
+ChoiceOk-same a k i f s same u = (u, inr (sym same), f, s, (λ p t under w. w), (inl refl, inl refl))
 
 -- a clause with new places
 
-pub LevelOk-changed : (slots next : List (Option Kept)) (lists lists' : List (List ℕ)) (pending : List ℕ) (n : ℕ) (es : List Entry) (m : Mark) (id : ℕ) (k k' : Kept) → Rewatched slots next lists lists' id k k' → (WatchOk (values_of n (older m.head es)) (values_of n es) k → WatchOk (values_of n (older m.head es)) (values_of n es) k') → LevelOk slots pending n es m → LevelOk next pending n es m
+pub LevelOk-changed : (slots next : List (Option Kept)) (lists lists' : List (List Watcher)) (pending : List ℕ) (n : ℕ) (es : List Entry) (m : Mark) (id : ℕ) (k k' : Kept) → Rewatched slots next lists lists' id k k' → (WatchOk (values_of n (older m.head es)) (values_of n es) k → WatchOk (values_of n (older m.head es)) (values_of n es) k') → LevelOk slots pending n es m → LevelOk next pending n es m
 LevelOk-changed slots next lists lists' pending n es m id k k' c good h = record {
   guard = λ j x at. elim (cases_eq j id) [
     | inl same ↦
@@ -389,41 +384,57 @@ LevelOk-changed slots next lists lists' pending n es m id k k' c good h = record
 
 -- lists that grow
 
-pub Grows-same : (lists : List (List ℕ)) → Grows lists lists
-Grows-same lists = record { len = refl; longer = λ c. omega arith; stable = λ c i h. refl }
+pub Grows-same : (lists : List (List Watcher)) → Grows lists lists
+Grows-same lists = record { len = refl; kept = λ x id c h. h }
 
-pub Grows-trans : (a b c : List (List ℕ)) → Grows a b → Grows b c → Grows a c
+pub Grows-trans : (a b c : List (List Watcher)) → Grows a b → Grows b c → Grows a c
 Grows-trans a b c g h = record {
   len = h.len ∙ g.len;
-  longer = λ k. let x = g.longer k in let y = h.longer k in omega arith;
-  stable = λ k i below. h.stable k i (let x = g.longer k in omega arith) ∙ g.stable k i below;
+  kept = λ x id cl w. h.kept x id cl (g.kept x id cl w);
 }
 
-InFrom-pushed : (xs : List ℕ) (id : ℕ) → InFrom (xs ++ id ∷ []) 0 id
-InFrom-pushed xs id =
-    let len = length-append xs (id ∷ []) in
-    (length xs, omega arith, omega (arith, len), get_or_push xs id 0 (length xs) refl)
+pub HasWatcher-pushed : (xs : List Watcher) (w : Watcher) (c : List Lit) → Contains c w.blocker → HasWatcher (xs ++ w ∷ []) w.key c
+HasWatcher-pushed xs w c has =
+    let len = length-append xs (w ∷ []) in (
+      length xs,
+      record {
+        within = omega (arith, len);
+        key = λ d. ap (λ (x : Watcher). x.key) (get_or_push xs w d (length xs) refl);
+        blocker = λ d. subst (λ (x : Watcher). Contains c x.blocker) (sym (get_or_push xs w d (length xs) refl)) has;
+      },
+    )
 
-pub Grows-push : (lists : List (List ℕ)) (at id : ℕ) → at < length lists → Grows lists (set lists at (list_at lists at ++ id ∷ []))
-Grows-push lists at id within =
-    let more : List ℕ = list_at lists at ++ id ∷ [] in
-    let len = length-append (list_at lists at) (id ∷ []) in
+HasWatcher-before : (xs : List Watcher) (w : Watcher) (id : ℕ) (c : List Lit) → HasWatcher xs id c → HasWatcher (xs ++ w ∷ []) id c
+HasWatcher-before xs w id c h =
+    let len = length-append xs (w ∷ []) in
+    let low = h.1.within in (
+      h.0,
+      record {
+        within = omega (arith, len, low);
+        key = λ d. ap (λ (x : Watcher). x.key) (get_or_append_left xs (w ∷ []) d h.0 low) ∙ h.1.key d;
+        blocker = λ d. subst (λ (x : Watcher). Contains c x.blocker) (sym (get_or_append_left xs (w ∷ []) d h.0 low)) (h.1.blocker d);
+      },
+    )
+
+pub Grows-push : (lists : List (List Watcher)) (at : ℕ) (w : Watcher) → at < length lists → Grows lists (set lists at (list_at lists at ++ w ∷ []))
+Grows-push lists at w within =
+    let more : List Watcher = list_at lists at ++ w ∷ [] in
     record {
       len = length-set lists at more;
-      longer = λ c. elim (cases_eq c at) [
+      kept = λ x id c h. elim (cases_eq x at) [
         | inl same ↦
-            subst (λ k. length (list_at lists k) ≤ length (list_at (set lists at more) k)) (sym same)
-            (rw (get_or-set_same lists at more [] within) (omega (arith, len)))
-        | inr other ↦ rw (get_or-set_other lists at c more [] other) (omega arith)
-      ];
-      stable = λ c i below. elim (cases_eq c at) [
-        | inl same ↦
-            let low : i < length (list_at lists at) = subst (λ k. i < length (list_at lists k)) same below in
-            subst (λ k. get_or (list_at (set lists at more) k) i 0 ≡ get_or (list_at lists k) i 0) (sym same)
-            (rw (get_or-set_same lists at more [] within) (get_or_append_left (list_at lists at) (id ∷ []) 0 i low))
-        | inr other ↦ ap (λ xs. get_or xs i 0) (get_or-set_other lists at c more [] other)
+            subst (λ k. HasWatcher (list_at (set lists at more) k) id c) (sym same)
+            (subst (λ xs. HasWatcher xs id c) (sym (get_or-set_same lists at more [] within)) (HasWatcher-before (list_at lists at) w id c (subst (λ k. HasWatcher (list_at lists k) id c) same h)))
+        | inr other ↦ subst (λ xs. HasWatcher xs id c) (sym (get_or-set_other lists at x more [] other)) h
       ];
     }
 
-pub InFrom-listed : (lists : List (List ℕ)) (at id : ℕ) → at < length lists → InFrom (list_at (set lists at (list_at lists at ++ id ∷ [])) at) 0 id
-InFrom-listed lists at id within = rw (get_or-set_same lists at (list_at lists at ++ id ∷ []) [] within) (InFrom-pushed (list_at lists at) id)
+pub HasWatcher-listed : (lists : List (List Watcher)) (at : ℕ) (w : Watcher) (c : List Lit) → at < length lists → Contains c w.blocker → HasWatcher (list_at (set lists at (list_at lists at ++ w ∷ [])) at) w.key c
+HasWatcher-listed lists at w c within has =
+    subst (λ xs. HasWatcher xs w.key c) (sym (get_or-set_same lists at (list_at lists at ++ w ∷ []) [] within)) (HasWatcher-pushed (list_at lists at) w c has)
+
+pub push_other : (lists : List (List Watcher)) (at x : ℕ) (w : Watcher) → x ≢ at → list_at (set lists at (list_at lists at ++ w ∷ [])) x ≡ list_at lists x
+push_other lists at x w other = get_or-set_other lists at x (list_at lists at ++ w ∷ []) [] other
+
+pub contains_place : (c : List Lit) (i : ℕ) (d : Lit) → i < length c → Contains c (get_or c i d)
+contains_place c i d within = Contains-get_or c i d within

@@ -1,19 +1,20 @@
--- What a contract sees of a `Store`: the clauses by key, the entries of the trail, the newest first, and how many places
--- there are for variables.
-use Rattle.std.specs.Prelude.{◌≡◌, ◌≢◌, ℕ, ◌+◌, ◌<◌, ◌≤◌, ◌++◌, ◌⊎◌, Bool, List, [], ◌∷◌, max, Option, Some, None, slice_index_or, Any}
-use Rattle.std.specs.List.{All}
+-- What a contract sees of a `Store`: the clauses by key, the entries of the trail, the newest first, how many places there
+-- are for variables, and the key of the next clause that is added.
+use Rattle.std.specs.Prelude.{◌≡◌, ◌≢◌, ℕ, ◌+◌, ◌<◌, ◌++◌, Bool, List, [], ◌∷◌, max, Option, Some, None, slice_index_or, Any}
+use Rattle.std.specs.List.{All, Contains}
 use Rattle.theory_form.specs.declared.literals.Lit.{Lit}
-use Rattle.theory_form.specs.Literals.{IsAscending}
+use Rattle.theory_form.specs.Literals.{IsAscending, opposite}
 use Rattle.theory_form.specs.Truth.{IsUnitAt, IsFalseClause, IsSettled}
 use Rattle.asp_trail.specs.declared.Entry.{Entry}
 use Rattle.asp_trail.specs.declared.Why.{Why}
 use Rattle.asp_trail.specs.declared.Why.TheVariants.{Decision, Clause}
-use Rattle.asp_trail.specs.Trail.{values_of}
+use Rattle.asp_trail.specs.Trail.{values_of, why_in}
 
 pub record State : Type 0 where
   pub clauses : List (Option (List Lit))
   pub entries : List Entry
   pub places : ℕ
+  pub next_key : ℕ
 
 -- the clause of a key
 abbrev pub clause_at : List (Option (List Lit)) → ℕ → Option (List Lit)
@@ -89,6 +90,24 @@ pub record IsStore (cs : List (Option (List Lit))) (es : List Entry) (n : ℕ) :
 abbrev pub IsReasonOfSome : List Entry → ℕ → Type 0
 IsReasonOfSome es id = Any (λ e. e.why ≡ Clause (record { 0 = id })) es
 
+-- a variable was assigned with the clause of this key as its reason
+abbrev pub IsBecauseOf : List Entry → ℕ → ℕ → Type 0
+IsBecauseOf es v id = (level : ℕ) × (why_in es v ≡ Some (Clause (record { 0 = id }), level))
+
+-- each literal of the clause is the opposite of one of these
+abbrev pub IsNegated : List Lit → List Lit → Type 0
+IsNegated assume c = All (λ l. Contains assume (opposite l)) c
+
+-- each literal of the clause of this key is the opposite of an assumption
+pub record IsRefuting (cs : List (Option (List Lit))) (assume : List Lit) (id : ℕ) : Type 0 where
+  pub clause : List Lit
+  pub stored : clause_at cs id ≡ Some clause
+  pub negated : IsNegated assume clause
+
+-- no clause is so
+abbrev pub NoneRefuting : List (Option (List Lit)) → List Lit → Type 0
+NoneRefuting cs assume = (id : ℕ) (c : List Lit) → clause_at cs id ≡ Some c → IsNegated assume c → ⊥
+
 -- every clause of the first list stands under its key in the second
 abbrev pub Keeps : List (Option (List Lit)) → List (Option (List Lit)) → Type 0
 Keeps old new = (id : ℕ) (c : List Lit) → clause_at old id ≡ Some c → clause_at new id ≡ Some c
@@ -108,8 +127,3 @@ pub record Removes (old new : List (Option (List Lit))) (id : ℕ) : Type 0 wher
 abbrev pub places_of : List Lit → ℕ
 places_of [] = 0
 places_of (l ∷ c) = max (l.var.0 + 1) (places_of c)
-
--- the places after room was made for a clause, or those before
-pub record MadePlaces (old new : ℕ) (c : List Lit) : Type 0 where
-  pub more : old ≤ new
-  pub made : (new ≡ old) ⊎ (new ≡ max old (places_of c))

@@ -1,17 +1,18 @@
 // Which two literals of a clause to watch.
-ghost use Rattle.std.specs.Prelude.{◌≡◌, ◌≢◌, ◌<◌, ◌⊎◌, length, slice_get, Some};
-ghost use Rattle.theory_form.specs.Truth.{TrueAt, TwoFree};
+ghost use Rattle.std.specs.Prelude.{◌≡◌, ◌≢◌, ◌<◌, ◌⊎◌, length, slice_get, Some, IsTrue};
+ghost use Rattle.theory_form.specs.Truth.{FreeAt, TwoFree};
 ghost use Rattle.asp_store.specs.Watch.{ChoiceOk, IsPlaced, is_lit, watches_lit};
 
 use crate::lits::Lits;
-use theory_form::{Assignment, Lit, Sight, Truth, look};
+use theory_form::{Assignment, Lit, Sight, look};
 
-/// A clause with its two watched places. The literals never move; a clause of one literal is watched at it twice.
+/// A clause with its two watched places, which stand before the literals. The literals never move; a clause of one literal
+/// is watched at it twice.
 #[derive(Drop)]
 pub struct Kept {
-    pub clause: Lits,
     pub first: usize,
     pub second: usize,
+    pub clause: Lits,
 }
 
 impl Kept {
@@ -34,10 +35,11 @@ fn stands_at(c: &[Lit], i: usize, l: Lit) -> bool
     }
 }
 
-/// What to do with a clause: nothing, watch two places, assign the literal at a place and watch two, or nothing helps.
+/// What to do with a clause: nothing, since the literal at a place is true or both watched ones have no value; watch two
+/// places; assign the literal at a place and watch two; or nothing helps.
 #[derive(Clone, Copy, PartialEq, Eq, Debug)]
 pub enum Choice {
-    Stay,
+    Stay(usize),
     Watch(usize, usize),
     Assign(usize, usize, usize),
     Clash,
@@ -52,24 +54,47 @@ pub fn choose(a: &Assignment, k: &Kept) -> Choice
     if c.len() == 0 {
         return Choice::Clash;
     }
-    match (a.truth(c[k.first]), a.truth(c[k.second])) {
-        (Truth::True, _) => Choice::Stay,
-        (_, Truth::True) => Choice::Stay,
-        (Truth::Free, Truth::Free) if k.first != k.second => Choice::Stay,
-        _ => choose_new(a, k),
+    choose_watched(a, k)
+}
+
+// Chooses places for a clause that has some.
+fn choose_watched(a: &Assignment, k: &Kept) -> Choice
+    requires first_in { k.now.first < length k.now.clause }
+    requires second_in { k.now.second < length k.now.clause }
+    ensures { ChoiceOk a.now k.now result }
+{
+    let c = k.clause.as_slice();
+    if a.is_true(c[k.first]) {
+        return Choice::Stay(k.first);
     }
+    if a.is_true(c[k.second]) {
+        return Choice::Stay(k.second);
+    }
+    if are_free(a, c, k.first, k.second) {
+        return Choice::Stay(k.first);
+    }
+    choose_new(a, k)
+}
+
+// Whether two places differ and their literals have no value.
+fn are_free(a: &Assignment, c: &[Lit], i: usize, j: usize) -> bool
+    requires first_in { i < length c.now }
+    requires second_in { j < length c.now }
+    ensures first { IsTrue result → FreeAt a.now c.now i }
+    ensures second { IsTrue result → FreeAt a.now c.now j }
+    ensures apart { IsTrue result → i ≢ j }
+{
+    i != j && a.is_free(c[i]) && a.is_free(c[j])
 }
 
 // Chooses new places for a clause none of whose two watched literals is true.
 fn choose_new(a: &Assignment, k: &Kept) -> Choice
     requires first_in { k.now.first < length k.now.clause }
     requires second_in { k.now.second < length k.now.clause }
-    requires first_not { TrueAt a.now k.now.clause k.now.first → ⊥ }
-    requires second_not { TrueAt a.now k.now.clause k.now.second → ⊥ }
     ensures { ChoiceOk a.now k.now result }
 {
     match look(a, k.clause.as_slice()) {
-        Sight::True(j) => Choice::Watch(j, k.second),
+        Sight::True(j) => Choice::Stay(j),
         Sight::Wide(i, j) => keep_one(a, k, i, j),
         Sight::Single(i) => {
             if i == k.second {

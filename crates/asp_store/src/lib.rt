@@ -2,8 +2,11 @@
 #![tactic(auto)]
 
 mod choices;
+mod inserts;
 mod lits;
 mod plain;
+mod reasons;
+mod refutes;
 mod stores;
 #[cfg(test)]
 mod tests;

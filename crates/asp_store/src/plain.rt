@@ -4,9 +4,9 @@ ghost use Rattle.theory_form.specs.Literals.{IsAscending};
 ghost use Rattle.theory_form.specs.Truth.{IsFreeIn};
 ghost use Rattle.asp_trail.specs.Trail.{IsTrail, back};
 ghost use Rattle.asp_store.specs.Plain.{ShowsOpen};
-ghost use Rattle.asp_store.specs.Store.{Adds, AllSettled, Grew, IsConflict, IsStore, MadePlaces, assigned, places_of};
+ghost use Rattle.asp_store.specs.Store.{Adds, AllSettled, Grew, IsConflict, IsStore, assigned, places_of};
 
-use crate::lits::Lits;
+use crate::lits::{Lits, reserve_clause};
 use asp_trail::{Entry, Trail, Why};
 use slab::Slab;
 use std::alloc::{AllocError, Global};
@@ -37,20 +37,6 @@ fn first_open(assignment: &Assignment, clauses: &Slab<Lits>) -> Open
     Open::Nothing
 }
 
-// Makes places for the variables of a clause, of which the last is the greatest.
-fn reserve_clause(trail: &mut Trail, lits: &[Lit]) -> Result<(), AllocError>
-    requires { IsAscending lits.now }
-    ensures ok { OnOk result (trail.new ≡ record trail.old { places = max trail.old.places (places_of lits.now) }) }
-    ensures err { OnErr result (trail.new ≡ trail.old) }
-    ensures trail { IsTrail trail.old.places trail.old.entries }
-{
-    let _assignment = trail.assignment();
-    match lits.last() {
-        Some(l) => trail.reserve(l.var.0),
-        None => Ok(()),
-    }
-}
-
 // Puts a clause into the slab.
 fn insert_copy(alloc: Global, clauses: &mut Slab<Lits>, lits: &[Lit]) -> Result<usize, AllocError>
     ensures added { IfOk result (λ key. Adds clauses.old.slots clauses.new.slots key lits.now) }
@@ -76,7 +62,7 @@ impl Model for Store {
 
     ghost Value = { State };
 
-    ghost view = { λ s. record { clauses = s.clauses.slots; entries = s.trail.entries; places = s.trail.places } };
+    ghost view = { λ s. record { clauses = s.clauses.slots; entries = s.trail.entries; places = s.trail.places; next_key = s.clauses.vacant_key } };
 
     ghost invariant = { λ s. IsStore s.clauses.slots s.trail.entries s.trail.places };
 }
@@ -84,7 +70,7 @@ impl Model for Store {
 impl Store {
     /// The empty store, without places.
     pub fn new(alloc: Global) -> Self
-        ensures { result ≡ record { clauses = []; entries = []; places = 0 } }
+        ensures { result ≡ record { clauses = []; entries = []; places = 0; next_key = 0 } }
     {
         Store {
             alloc,
@@ -132,9 +118,8 @@ impl Store {
     /// can run out; then nothing else changes, but places may have been made.
     pub fn add(&mut self, c: &Clause) -> Result<ClauseId, AllocError>
         ensures added { IfOk result (λ id. Adds self.old.clauses self.new.clauses id.0 c.now) }
-        ensures ok { OnOk result (self.new ≡ record self.old { clauses = self.new.clauses; places = max self.old.places (places_of c.now) }) }
-        ensures err { OnErr result (self.new ≡ record self.old { places = self.new.places }) }
-        ensures places { MadePlaces self.old.places self.new.places c.now }
+        ensures ok { OnOk result (self.new ≡ record self.old { clauses = self.new.clauses; places = max self.old.places (places_of c.now); next_key = self.new.next_key }) }
+        ensures err { OnErr result (self.new ≡ record self.old { places = self.new.places; next_key = self.new.next_key }) }
     {
         let lits = c.lits();
         reserve_clause(&mut self.trail, lits)?;

@@ -1,17 +1,17 @@
 // The store: clauses with two watched literals, the trail and the watchers.
-ghost use Rattle.std.specs.Prelude.{◌≡◌, ◌↔◌, ◌<◌, ◌≤◌, ◌+◌, ◌*◌, ◌^◌, ◌⊎◌, [], ◌∷◌, length, map, max, reverse, vec_capacity, None, IfOk, IfSome, IsFalse, IsTrue, MatchOption, OnErr, OnOk};
-ghost use Rattle.std.specs.List.{All};
+ghost use Rattle.std.specs.Prelude.{◌≡◌, ◌↔◌, ◌<◌, ◌+◌, ◌⊎◌, [], ◌∷◌, map, max, reverse, vec_capacity, None, IfOk, IfSome, IsFalse, IsTrue, MatchOption, OnErr, OnOk};
 ghost use Rattle.std.specs.Option.{option_copied};
 ghost use Rattle.theory_form.specs.Literals.{IsAscending};
 ghost use Rattle.theory_form.specs.Truth.{IsFreeIn};
 ghost use Rattle.asp_trail.specs.Trail.{IsTrail, back, level_of, why_in};
-ghost use Rattle.asp_store.specs.Store.{Adds, AllSettled, Grew, IsConflict, IsImpliedBy, IsReasonOfSome, IsStore, MadePlaces, Removes, assigned, clause_at, places_of};
-ghost use Rattle.asp_store.specs.Watch.{Grows, IsDroppedOrSame, IsInserted, IsLonger, Listed, code};
+ghost use Rattle.asp_store.specs.Store.{Adds, AllSettled, Grew, IsConflict, IsImpliedBy, IsReasonOfSome, IsRefuting, IsStore, NoneRefuting, Removes, assigned, clause_at, places_of};
 
 use crate::choices::Kept;
-use crate::lits::Lits;
+use crate::inserts::{drop_done, insert, make_lists, make_rooms, note_empty, reserve_keys};
+use crate::reasons::is_reason_in;
+use crate::refutes::find_refuting;
 use crate::visits::{Mark, run};
-use crate::watches::{Lists, list_twice};
+use crate::watches::Lists;
 use asp_trail::{Entry, Trail, Why};
 use slab::Slab;
 use std::alloc::{AllocError, Global};
@@ -28,6 +28,7 @@ pub struct Store {
     clauses: Slab<Kept>,
     lists: Lists,
     trail: Trail,
+    empties: Vec<usize>,
     pending: Vec<usize>,
     marks: Vec<Mark>,
     top: Mark,
@@ -40,21 +41,22 @@ impl Model for Store {
 
     ghost Value = { State };
 
-    ghost view = { λ s. record { clauses = clauses_of s.clauses.slots; entries = s.trail.entries; places = s.trail.places } };
+    ghost view = { λ s. record { clauses = clauses_of s.clauses.slots; entries = s.trail.entries; places = s.trail.places; next_key = s.clauses.vacant_key } };
 
-    ghost invariant = { λ s. IsWatchStore s.clauses.slots s.lists s.pending.items s.trail.places s.trail.entries s.marks.items s.top (vec_capacity s.marks) };
+    ghost invariant = { λ s. IsWatchStore s.clauses.slots s.lists s.empties.items s.pending.items s.trail.places s.trail.entries s.marks.items s.top (vec_capacity s.marks) };
 }
 
 impl Store {
     /// The empty store, without places.
     pub fn new(alloc: Global) -> Self
-        ensures { result ≡ record { clauses = []; entries = []; places = 0 } }
+        ensures { result ≡ record { clauses = []; entries = []; places = 0; next_key = 0 } }
     {
         Store {
             alloc,
             clauses: Slab::new(alloc),
             lists: Lists::new(alloc),
             trail: Trail::new(alloc),
+            empties: Vec::new(alloc),
             pending: Vec::new(alloc),
             marks: Vec::new(alloc),
             top: Mark { head: 0, done: 0 },
@@ -121,13 +123,8 @@ impl Store {
         ensures ok { OnOk result (self.new ≡ record self.old { places = max self.old.places (vars + 1) }) }
         ensures err { OnErr result (self.new ≡ self.old) }
     {
-        make_places(
-            self.alloc,
-            &mut self.lists,
-            &mut self.marks,
-            &mut self.trail,
-            vars,
-        )?;
+        make_lists(self.alloc, &mut self.lists, &mut self.marks, vars)?;
+        self.trail.reserve(vars)?;
         Ok(())
     }
 
@@ -166,38 +163,59 @@ impl Store {
         }
     }
 
-    /// Adds a clause and answers its key, which no clause had. It makes places for the variables of the clause. Only memory
-    /// can run out; then nothing else changes, but places may have been made.
+    /// The key that the next `add` answers, so that a caller can make room for it before. No clause has it.
+    pub fn next_key(&self) -> ClauseId
+        ensures value { result.0 ≡ self.now.next_key }
+        ensures free { clause_at self.now.clauses result.0 ≡ None }
+    {
+        ClauseId(self.clauses.vacant_key() as u64)
+    }
+
+    /// Adds a clause and answers its key, which no clause had: that of `next_key`. It makes places for the variables of the
+    /// clause. Only memory can run out, and then nothing changes.
     pub fn add(&mut self, c: &Clause) -> Result<ClauseId, AllocError>
         ensures added { IfOk result (λ id. Adds self.old.clauses self.new.clauses id.0 c.now) }
-        ensures ok { OnOk result (self.new ≡ record self.old { clauses = self.new.clauses; places = max self.old.places (places_of c.now) }) }
-        ensures err { OnErr result (self.new ≡ record self.old { places = self.new.places }) }
-        ensures places { MadePlaces self.old.places self.new.places c.now }
+        ensures key { IfOk result (λ id. id.0 ≡ self.old.next_key) }
+        ensures ok { OnOk result (self.new ≡ record self.old { clauses = self.new.clauses; places = max self.old.places (places_of c.now); next_key = self.new.next_key }) }
+        ensures err { OnErr result (self.new ≡ self.old) }
     {
         let lits = c.lits();
-        make_clause_places(
+        make_rooms(self.alloc, &mut self.lists, &mut self.marks, lits)?;
+        drop_done(&mut self.pending, &mut self.top, self.marks.len());
+        reserve_keys(&mut self.pending, &mut self.empties)?;
+        let key = insert(
             self.alloc,
+            &mut self.clauses,
             &mut self.lists,
-            &mut self.marks,
             &mut self.trail,
             lits,
         )?;
-        drop_done(&mut self.pending, &mut self.top, self.marks.len());
-        self.pending.reserve(1)?;
-        let id = insert_watched(self.alloc, &mut self.clauses, &mut self.lists, lits)?;
-        self.pending.push_reserved(id);
-        Ok(ClauseId(id as u64))
+        note_empty(&mut self.empties, key, lits);
+        self.pending.push_reserved(key);
+        Ok(ClauseId(key as u64))
+    }
+
+    /// Whether a clause is the reason of an assigned literal. It costs a look at each literal of the clause.
+    pub fn is_reason(&self, id: ClauseId) -> bool
+        ensures { IsTrue result ↔ IsReasonOfSome self.now.entries id.0 }
+    {
+        // Its clauses tell that no variable stands twice on the trail.
+        let _assignment = self.trail.assignment();
+        match self.clauses.get(id.0 as usize) {
+            Some(kept) => is_reason_in(&self.trail, kept.clause.as_slice(), id),
+            None => false,
+        }
     }
 
     /// Takes a clause out, and answers whether it did. It answers false exactly where there is no such clause or it is the
-    /// reason of an assigned literal, and then nothing changes. It takes no memory.
+    /// reason of an assigned literal (`is_reason`), and then nothing changes. It takes no memory.
     pub fn forget(&mut self, id: ClauseId) -> bool
-        ensures refused { IsFalse result ↔ ((clause_at self.old.clauses id.0 ≡ None) ⊎ IsReasonOfSome (reverse self.old.entries) id.0) }
+        ensures refused { IsFalse result ↔ ((clause_at self.old.clauses id.0 ≡ None) ⊎ IsReasonOfSome self.old.entries id.0) }
         ensures gone { IsTrue result → Removes self.old.clauses self.new.clauses id.0 }
-        ensures rest { self.new ≡ record self.old { clauses = self.new.clauses } }
+        ensures rest { self.new ≡ record self.old { clauses = self.new.clauses; next_key = self.new.next_key } }
         ensures unchanged { IsFalse result → self.new ≡ self.old }
     {
-        if is_reason(self.trail.entries(), id) {
+        if self.is_reason(id) {
             return false;
         }
         let key = id.0 as usize;
@@ -206,6 +224,25 @@ impl Store {
         }
         let _kept = self.clauses.remove(key);
         true
+    }
+
+    /// A clause each of whose literals is the opposite of one of these, and `None` exactly where there is none. The empty clause
+    /// is such a clause whatever is assumed. It looks at the clauses that watch the opposite of an assumption, and looks each
+    /// of their literals up among the assumptions.
+    pub fn refuting(&self, assume: &[Lit]) -> Option<ClauseId>
+        ensures { MatchOption result (NoneRefuting self.now.clauses assume.now) (λ id. IsRefuting self.now.clauses assume.now id.0) }
+    {
+        let places = self.trail.places();
+        match find_refuting(
+            &self.clauses,
+            &self.lists,
+            self.empties.as_slice(),
+            assume,
+            places,
+        ) {
+            Some(key) => Some(ClauseId(key as u64)),
+            None => None,
+        }
     }
 
     /// Assigns literals that clauses imply until a clause is false, which it answers, or no clause is unit or false. Only
@@ -225,143 +262,4 @@ impl Store {
         )?;
         Ok(found)
     }
-}
-
-// How many places there are for the variables up to `vars`. Lists for so many as 2^63 fit no memory.
-fn places_up_to(vars: u64) -> Result<usize, AllocError>
-    ensures places { IfOk result (λ places. places ≡ vars + 1) }
-    ensures fits { IfOk result (λ places. 2 * places < 2 ^ 64) }
-{
-    if vars < u64::MAX / 2 {
-        Ok(vars as usize + 1)
-    } else {
-        Err(AllocError)
-    }
-}
-
-// Makes room for so many marks in all.
-fn reserve_marks(marks: &mut Vec<Mark>, wanted: usize) -> Result<(), AllocError>
-    ensures items { marks.new.items ≡ marks.old.items }
-    ensures ok { OnOk result (wanted ≤ vec_capacity marks.new) }
-    ensures wider { vec_capacity marks.old ≤ vec_capacity marks.new }
-{
-    let len = marks.len();
-    if len < wanted {
-        marks.reserve(wanted - len)?;
-    }
-    Ok(())
-}
-
-// Makes places for the variables up to `vars`.
-fn make_places(
-    alloc: Global,
-    lists: &mut Lists,
-    marks: &mut Vec<Mark>,
-    trail: &mut Trail,
-    vars: u64,
-) -> Result<(), AllocError>
-    ensures ok { OnOk result (trail.new ≡ record trail.old { places = max trail.old.places (vars + 1) }) }
-    ensures err { OnErr result (trail.new ≡ trail.old) }
-    ensures trail { IsTrail trail.old.places trail.old.entries }
-    ensures longer { IsLonger lists.old lists.new }
-    ensures lists { OnOk result (2 * (vars + 1) ≤ length lists.new) }
-    ensures marks { marks.new.items ≡ marks.old.items }
-    ensures wider { vec_capacity marks.old ≤ vec_capacity marks.new }
-    ensures levels { OnOk result (vars + 1 ≤ vec_capacity marks.new) }
-{
-    let _assignment = trail.assignment();
-    let places = places_up_to(vars)?;
-    lists.grow(alloc, 2 * places)?;
-    reserve_marks(marks, places)?;
-    trail.reserve(vars)?;
-    Ok(())
-}
-
-// Makes places for the variables of a clause, of which the last is the greatest.
-fn make_clause_places(
-    alloc: Global,
-    lists: &mut Lists,
-    marks: &mut Vec<Mark>,
-    trail: &mut Trail,
-    lits: &[Lit],
-) -> Result<(), AllocError>
-    requires { IsAscending lits.now }
-    ensures ok { OnOk result (trail.new ≡ record trail.old { places = max trail.old.places (places_of lits.now) }) }
-    ensures err { OnErr result (trail.new ≡ trail.old) }
-    ensures trail { IsTrail trail.old.places trail.old.entries }
-    ensures longer { IsLonger lists.old lists.new }
-    ensures lists { OnOk result (2 * places_of lits.now ≤ length lists.new) }
-    ensures marks { marks.new.items ≡ marks.old.items }
-    ensures wider { vec_capacity marks.old ≤ vec_capacity marks.new }
-    ensures levels { OnOk result (places_of lits.now ≤ vec_capacity marks.new) }
-{
-    let _assignment = trail.assignment();
-    match lits.last() {
-        Some(l) => make_places(alloc, lists, marks, trail, l.var.0),
-        None => Ok(()),
-    }
-}
-
-// Drops the keys that wait, where all clauses were looked at and no level is open.
-fn drop_done(pending: &mut Vec<usize>, top: &mut Mark, level: usize)
-    ensures { IsDroppedOrSame pending.old.items top.old level pending.new.items top.new }
-{
-    if level != 0 || top.done != pending.len() {
-        return;
-    }
-    pending.clear();
-    top.done = 0;
-}
-
-// Whether a clause is the reason of an entry.
-fn is_reason(entries: &[Entry], id: ClauseId) -> bool
-    ensures { IsTrue result ↔ IsReasonOfSome entries.now id.0 }
-{
-    entries.iter().any(|e| e.why == Why::Clause(id))
-}
-
-// Puts a clause into the slab and into the lists of its first two literals.
-fn insert_watched(
-    alloc: Global,
-    clauses: &mut Slab<Kept>,
-    lists: &mut Lists,
-    lits: &[Lit],
-) -> Result<usize, AllocError>
-    requires { All (λ l. code l < length lists.old) lits.now }
-    ensures grows { Grows lists.old lists.new }
-    ensures added { IfOk result (λ id. IsInserted clauses.old.slots clauses.new.slots lists.new id lits.now) }
-    ensures err { OnErr result (clauses.new.slots ≡ clauses.old.slots) }
-{
-    let clause = Lits::from_slice(alloc, lits)?;
-    clauses.reserve(1)?;
-    let id = clauses.vacant_key();
-    let second = second_place(lits);
-    list_new(lists, id, lits, second)?;
-    let key = clauses.insert_reserved(Kept {
-        clause,
-        first: 0,
-        second,
-    });
-    Ok(key)
-}
-
-// The second place of a clause, or the first where there is no second.
-fn second_place(lits: &[Lit]) -> usize
-    ensures { 0 < length lits.now → result < length lits.now }
-{
-    if lits.len() > 1 { 1 } else { 0 }
-}
-
-// Puts the key of a new clause into the lists of its first literal and of another.
-fn list_new(lists: &mut Lists, id: usize, lits: &[Lit], second: usize) -> Result<(), AllocError>
-    requires codes { All (λ l. code l < length lists.old) lits.now }
-    requires place { 0 < length lits.now → second < length lits.now }
-    ensures grows { Grows lists.old lists.new }
-    ensures listed { OnOk result (Listed lists.new id (record { clause = lits.now; first = 0; second = second })) }
-{
-    if lits.len() == 0 {
-        return Ok(());
-    }
-    list_twice(lists, id, lits[0], lits[second])?;
-    Ok(())
 }

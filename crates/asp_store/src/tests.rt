@@ -17,6 +17,13 @@ enum Step<'a> {
     Assigned(&'a [i64]),
     // The key of the clause that is the reason of a variable at level 0.
     Reason(u64, u64),
+    // Whether the clause of a key is a reason.
+    IsReason(u64, bool),
+    NextKey(u64),
+    // The literals of the clause of a key.
+    Clause(u64, &'a [i64]),
+    // The key of a clause each of whose literals is the opposite of one of these.
+    Refuting(&'a [i64], Option<u64>),
 }
 
 fn lit(number: i64) -> Lit {
@@ -26,14 +33,27 @@ fn lit(number: i64) -> Lit {
     }
 }
 
-// Adds the clause of these literals.
-fn add(alloc: Global, store: &mut Store, numbers: &[i64]) -> Result<(), AllocError> {
+fn literals(alloc: Global, numbers: &[i64]) -> Result<Vec<Lit>, AllocError> {
     let mut lits = Vec::new(alloc);
     for number in numbers {
         lits.push(lit(*number))?;
     }
-    store.add(&Clause::sorted(lits)?)?;
+    Ok(lits)
+}
+
+// Adds the clause of these literals.
+fn add(alloc: Global, store: &mut Store, numbers: &[i64]) -> Result<(), AllocError> {
+    store.add(&Clause::sorted(literals(alloc, numbers)?)?)?;
     Ok(())
+}
+
+// Whether the clause of a key has these literals, in this order.
+fn has_clause(store: &Store, key: u64, numbers: &[i64]) -> bool {
+    match store.clause(ClauseId(key)) {
+        Some(lits) => lits.len() == numbers.len()
+            && lits.iter().zip(numbers).all(|(l, n)| *l == lit(*n)),
+        None => false,
+    }
 }
 
 // Decides a literal if its variable has a place and no value.
@@ -67,6 +87,13 @@ fn answers(alloc: Global, store: &mut Store, step: &Step<'_>) -> Result<bool, Al
         Step::Assigned(numbers) => Ok(has_assigned(store, numbers)),
         Step::Reason(var, key) => {
             Ok(store.why(Var(*var)) == Some((Why::Clause(ClauseId(*key)), 0)))
+        }
+        Step::IsReason(key, want) => Ok(store.is_reason(ClauseId(*key)) == *want),
+        Step::NextKey(key) => Ok(store.next_key() == ClauseId(*key)),
+        Step::Clause(key, numbers) => Ok(has_clause(store, *key, numbers)),
+        Step::Refuting(numbers, want) => {
+            let assume = literals(alloc, numbers)?;
+            Ok(store.refuting(assume.as_slice()) == want.map(ClauseId))
         }
     }
 }
@@ -141,7 +168,26 @@ const LATE_CLAUSES: [Step<'static>; 16] = [
     Step::Propagate(Some(3)),
 ];
 
-const FORGET_AND_ADD_AGAIN: [Step<'static>; 15] = [
+const REFUTED_CLAUSES: [Step<'static>; 16] = [
+    Step::Refuting(&[1, 2], None),
+    Step::Add(&[1, 2]),
+    Step::Add(&[3, -1, 4]),
+    Step::Refuting(&[-1], None),
+    Step::Refuting(&[-2, 5, -1], Some(0)),
+    Step::Refuting(&[-3, 1, -4], Some(1)),
+    Step::Decide(-1),
+    Step::Propagate(None),
+    Step::Refuting(&[-3, 1, -4], Some(1)),
+    Step::Refuting(&[-3, -1, -4], None),
+    Step::NextKey(2),
+    Step::Add(&[]),
+    Step::Clause(1, &[-1, 3, 4]),
+    Step::Refuting(&[], Some(2)),
+    Step::Forget(2, true),
+    Step::Refuting(&[5], None),
+];
+
+const FORGET_AND_ADD_AGAIN: [Step<'static>; 18] = [
     Step::Add(&[1]),
     Step::Add(&[-2, -1]),
     Step::Add(&[2, 3]),
@@ -149,6 +195,9 @@ const FORGET_AND_ADD_AGAIN: [Step<'static>; 15] = [
     Step::Forget(2, false),
     Step::Propagate(None),
     Step::Assigned(&[1, -2]),
+    Step::IsReason(1, true),
+    Step::IsReason(2, false),
+    Step::NextKey(2),
     Step::Forget(0, false),
     Step::Forget(1, false),
     Step::Add(&[2, 3]),
@@ -166,6 +215,7 @@ fn each_step_is_answered_as_it_says(rt: HostRuntime) -> Result<(), Fail> {
     assert_eq!(rt; first_wrong(alloc, &CONFLICT_AT_LEVEL_0)?, None);
     assert_eq!(rt; first_wrong(alloc, &BACK_AND_ON)?, None);
     assert_eq!(rt; first_wrong(alloc, &LATE_CLAUSES)?, None);
+    assert_eq!(rt; first_wrong(alloc, &REFUTED_CLAUSES)?, None);
     assert_eq!(rt; first_wrong(alloc, &FORGET_AND_ADD_AGAIN)?, None);
     Ok(())
 }

@@ -1,6 +1,8 @@
-// The watchers of each literal: the keys of the clauses that watch it.
-ghost use Rattle.std.specs.Prelude.{◌≡◌, ◌<◌, ◌≤◌, ◌+◌, ◌*◌, ◌++◌, ◌^◌, [], ◌∷◌, filter, length, slice_get, slice_set, OnErr, OnOk};
-ghost use Rattle.asp_store.specs.Watch.{Grows, InFrom, IsLonger, IsPlacesIn, Listed, code, is_watcher, list_at};
+// The watchers of each literal: the keys of the clauses that watch it, each with a literal of its clause.
+ghost use Rattle.std.specs.Prelude.{◌≡◌, ◌<◌, ◌≤◌, ◌+◌, ◌*◌, ◌++◌, ◌^◌, ◌↔◌, ℕ, List, IsTrue, [], ◌∷◌, ◌≢◌, length, slice_index_or, slice_set, OnErr, OnOk};
+ghost use Rattle.std.specs.List.{All, Contains};
+ghost use Rattle.theory_form.specs.declared.literals.Lit.{Lit as Literal};
+ghost use Rattle.asp_store.specs.Watch.{Grows, HasWatcher, IsLonger, IsPassed, IsPlacesIn, IsTakenOut, Listed, code, is_watcher, list_at};
 
 use crate::choices::Kept;
 use slab::Slab;
@@ -8,72 +10,74 @@ use std::alloc::{AllocError, Global};
 use std::marker::Model;
 use theory_form::Lit;
 
-/// Keys of clauses.
+/// The key of a clause in the list of a literal, with a literal of the clause. Where that is true the clause need not be
+/// looked at. A watcher may be left from an earlier clause of the key, and then does no harm.
+#[derive(Clone, Copy, PartialEq, Eq, Debug)]
+pub struct Watcher {
+    pub key: usize,
+    pub blocker: Lit,
+}
+
+/// The watchers of a literal.
 #[derive(Drop)]
-pub struct Keys {
-    list: Vec<usize>,
+pub struct Watchers {
+    list: Vec<Watcher>,
 }
 
-impl Model for Keys {
-    ghost use Rattle.std.specs.Prelude.{List, ℕ};
+impl Model for Watchers {
+    ghost use Rattle.std.specs.Prelude.{List};
+    ghost use Rattle.asp_store.specs.declared.watches.Watcher.{Watcher as WatcherOf};
 
-    ghost Value = { List ℕ };
+    ghost Value = { List WatcherOf };
 
-    ghost view = { λ k. k.list.items };
+    ghost view = { λ w. w.list.items };
 }
 
-impl Keys {
+impl Watchers {
     fn new(alloc: Global) -> Self
         ensures { result ≡ [] }
     {
-        Keys {
+        Watchers {
             list: Vec::new(alloc),
         }
     }
 
-    fn push(&mut self, id: usize) -> Result<(), AllocError>
-        ensures ok { OnOk result (self.new ≡ self.old ++ id ∷ []) }
+    fn push(&mut self, watcher: Watcher) -> Result<(), AllocError>
+        ensures ok { OnOk result (self.new ≡ self.old ++ watcher ∷ []) }
         ensures err { OnErr result (self.new ≡ self.old) }
     {
-        self.list.push(id)?;
+        self.list.push(watcher)?;
         Ok(())
     }
 
-    fn get(&self, i: usize) -> Option<usize>
-        ensures { result ≡ slice_get self.now i }
+    fn set(&mut self, i: usize, watcher: Watcher)
+        requires { i < length self.old }
+        ensures { self.new ≡ slice_set self.old i watcher }
     {
-        self.list.get(i).copied()
+        self.list[i] = watcher;
     }
 
-    // Keeps the keys of the clauses that watch a literal.
-    fn retain_watchers(&mut self, clauses: &Slab<Kept>, l: Lit)
-        ensures { self.new ≡ filter (λ id. is_watcher clauses.now.slots l id) self.old }
+    fn take_out(&mut self, i: usize)
+        requires { i < length self.old }
+        ensures { IsTakenOut self.old self.new i }
     {
-        self.list.retain(|id| is_watching(clauses, *id, l));
+        self.list.swap_remove(i);
     }
 }
 
-// Whether the clause of a key watches a literal.
-fn is_watching(clauses: &Slab<Kept>, id: usize, l: Lit) -> bool
-    ensures { result ≡ is_watcher clauses.now.slots l id }
-{
-    match clauses.get(id) {
-        Some(kept) => kept.has_watch(l),
-        None => false,
-    }
-}
-
-/// A list of keys for each literal: those of variable v stand at the places 2 v, for the negative one, and 2 v + 1. The
-/// key of each clause stands in the lists of the two literals that it watches. Other keys may stand there too.
+/// A list of watchers for each literal: those of variable v stand at the places 2 v, for the negative one, and 2 v + 1. The
+/// key of each clause stands in the lists of the two literals that it watches, with a literal of the clause. Other watchers
+/// may stand there too, until the list is visited.
 #[derive(Drop)]
 pub struct Lists {
-    lists: Vec<Keys>,
+    lists: Vec<Watchers>,
 }
 
 impl Model for Lists {
-    ghost use Rattle.std.specs.Prelude.{List, ℕ};
+    ghost use Rattle.std.specs.Prelude.{List};
+    ghost use Rattle.asp_store.specs.declared.watches.Watcher.{Watcher as WatcherOf};
 
-    ghost Value = { List (List ℕ) };
+    ghost Value = { List (List WatcherOf) };
 
     ghost view = { λ l. l.lists.items };
 }
@@ -100,83 +104,141 @@ impl Lists {
         ensures ok { OnOk result (wanted ≤ length self.new) }
     {
         'rows: while self.lists.len() < wanted {
-            self.lists.push(Keys::new(alloc))?;
+            self.lists.push(Watchers::new(alloc))?;
         }
         Ok(())
     }
 
-    fn push(&mut self, l: Lit, id: usize) -> Result<(), AllocError>
+    fn push(&mut self, l: Lit, watcher: Watcher) -> Result<(), AllocError>
         requires { code l < length self.old }
-        ensures ok { OnOk result (self.new ≡ slice_set self.old (code l) (list_at self.old (code l) ++ id ∷ [])) }
+        ensures ok { OnOk result (self.new ≡ slice_set self.old (code l) (list_at self.old (code l) ++ watcher ∷ [])) }
         ensures err { OnErr result (self.new ≡ self.old) }
     {
-        let keys = &mut self.lists[place_of(l)];
-        keys.push(id)?;
+        let watchers = &mut self.lists[place_of(l)];
+        watchers.push(watcher)?;
         Ok(())
     }
 
-    /// Takes the keys of clauses that do not watch a literal out of its list.
-    pub fn sweep(&mut self, clauses: &Slab<Kept>, l: Lit)
-        requires { code l < length self.old }
-        ensures { self.new ≡ slice_set self.old (code l) (filter (λ id. is_watcher clauses.now.slots l id) (list_at self.old (code l))) }
+    // Puts a watcher in the place of another.
+    fn set(&mut self, l: Lit, i: usize, watcher: Watcher)
+        requires within { code l < length self.old }
+        requires place { i < length (list_at self.old (code l)) }
+        ensures { self.new ≡ slice_set self.old (code l) (slice_set (list_at self.old (code l)) i watcher) }
     {
-        let keys = &mut self.lists[place_of(l)];
-        keys.retain_watchers(clauses, l);
+        let watchers = &mut self.lists[place_of(l)];
+        watchers.set(i, watcher);
     }
 
-    /// How many keys stand in the list of a literal.
-    pub fn len_at(&self, l: Lit) -> usize
-        requires { code l < length self.now }
-        ensures { result ≡ length (list_at self.now (code l)) }
+    // Takes a watcher out, and puts the last one into its place.
+    fn take_out(&mut self, l: Lit, i: usize)
+        requires within { code l < length self.old }
+        requires place { i < length (list_at self.old (code l)) }
+        ensures one_list { self.new ≡ slice_set self.old (code l) (list_at self.new (code l)) }
+        ensures taken { IsTakenOut (list_at self.old (code l)) (list_at self.new (code l)) i }
     {
-        match self.lists.get(place_of(l)) {
-            None => 0,
-            Some(keys) => keys.list.len(),
-        }
+        let watchers = &mut self.lists[place_of(l)];
+        watchers.take_out(i);
     }
 
-    /// A key of the list of a literal.
-    pub fn get(&self, l: Lit, i: usize) -> Option<usize>
-        requires { code l < length self.now }
-        ensures { result ≡ slice_get (list_at self.now (code l)) i }
+    /// Whether the lists of a variable are there.
+    pub fn has(&self, l: Lit) -> bool
+        ensures { IsTrue result ↔ (2 * l.var.0 + 2 ≤ length self.now) }
     {
-        match self.lists.get(place_of(l)) {
-            None => None,
-            Some(keys) => keys.get(i),
-        }
+        (l.var.0 as usize) < self.lists.len() / 2
+    }
+
+    /// The watchers of a literal.
+    pub fn watchers_of(&self, l: Lit) -> &[Watcher]
+        requires { code l < length self.now }
+        ensures { result.now ≡ list_at self.now (code l) }
+    {
+        self.lists[place_of(l)].list.as_slice()
     }
 }
 
-/// Puts a key into the lists of two literals.
-pub fn list_twice(lists: &mut Lists, id: usize, first: Lit, second: Lit) -> Result<(), AllocError>
-    requires first_in { code first < length lists.old }
-    requires second_in { code second < length lists.old }
-    ensures grows { Grows lists.old lists.new }
-    ensures first_listed { OnOk result (InFrom (list_at lists.new (code first)) 0 id) }
-    ensures second_listed { OnOk result (InFrom (list_at lists.new (code second)) 0 id) }
+// Whether the clause of a key watches a literal.
+fn is_watching(clauses: &Slab<Kept>, id: usize, l: Lit) -> bool
+    ensures { result ≡ is_watcher clauses.now.slots l id }
 {
-    lists.push(first, id)?;
-    lists.push(second, id)?;
+    match clauses.get(id) {
+        Some(kept) => kept.has_watch(l),
+        None => false,
+    }
+}
+
+/// Replaces the watcher at a place where its clause still watches the literal, and else takes it out. Answers the place
+/// where the next one stands.
+pub fn pass(clauses: &Slab<Kept>, lists: &mut Lists, l: Lit, i: usize, watcher: Watcher) -> usize
+    requires within { code l < length lists.old }
+    requires place { i < length (list_at lists.old (code l)) }
+    requires fits { i + 1 < 2 ^ 64 }
+    ensures { IsPassed (is_watcher clauses.now.slots l watcher.key) lists.old lists.new (code l) i result watcher }
+{
+    if is_watching(clauses, watcher.key, l) {
+        lists.set(l, i, watcher);
+        return i + 1;
+    }
+    lists.take_out(l, i);
+    i
+}
+
+/// Puts a new clause into the lists of two of its literals, which may be one.
+pub fn list_new(
+    lists: &mut Lists,
+    id: usize,
+    lits: &[Lit],
+    first: usize,
+    second: usize,
+) -> Result<(), AllocError>
+    requires codes { All (λ l. code l < length lists.old) lits.now }
+    requires first_in { 0 < length lits.now → first < length lits.now }
+    requires second_in { 0 < length lits.now → second < length lits.now }
+    ensures grows { Grows lists.old lists.new }
+    ensures listed { OnOk result (Listed lists.new id (record { first = first; second = second; clause = lits.now })) }
+{
+    if lits.len() == 0 {
+        return Ok(());
+    }
+    list_two(lists, id, lits, first, second)
+}
+
+// Puts a new clause that is not empty into the lists of two of its literals, which may be one.
+fn list_two(
+    lists: &mut Lists,
+    id: usize,
+    lits: &[Lit],
+    first: usize,
+    second: usize,
+) -> Result<(), AllocError>
+    requires codes { All (λ l. code l < length lists.old) lits.now }
+    requires first_in { first < length lits.now }
+    requires second_in { second < length lits.now }
+    ensures grows { Grows lists.old lists.new }
+    ensures listed { OnOk result (Listed lists.new id (record { first = first; second = second; clause = lits.now })) }
+{
+    list_moved(lists, id, lits.len(), first, lits[first], lits[second])?;
+    list_moved(lists, id, first, second, lits[second], lits[first])?;
     Ok(())
 }
 
-// Puts a key into the list of the literal at a place, unless that place was watched.
+// Puts a key into the list of the literal at a place, with another literal of its clause, unless that place was watched.
 fn list_moved(
     lists: &mut Lists,
     id: usize,
     was: usize,
     place: usize,
     l: Lit,
+    blocker: Lit,
 ) -> Result<(), AllocError>
     requires within { code l < length lists.old }
-    requires stays { place ≡ was → InFrom (list_at lists.old (code l)) 0 id }
     ensures grows { Grows lists.old lists.new }
-    ensures listed { OnOk result (InFrom (list_at lists.new (code l)) 0 id) }
+    ensures listed { OnOk result ((c : List Literal) → (place ≡ was → HasWatcher (list_at lists.old (code l)) id c) → Contains c blocker → HasWatcher (list_at lists.new (code l)) id c) }
+    ensures stable { (x : ℕ) → (place ≢ was → x ≢ code l) → list_at lists.new x ≡ list_at lists.old x }
 {
     if place == was {
         return Ok(());
     }
-    lists.push(l, id)?;
+    lists.push(l, Watcher { key: id, blocker })?;
     Ok(())
 }
 
@@ -192,9 +254,10 @@ pub fn list_places(
     requires listed { Listed lists.old id kept.now }
     ensures grows { Grows lists.old lists.new }
     ensures listed { OnOk result (Listed lists.new id (record kept.now { first = i; second = j })) }
+    ensures stable { (x : ℕ) → (i ≢ kept.now.first → (d : Literal) → x ≢ code (slice_index_or kept.now.clause i d)) → (j ≢ kept.now.second → (d : Literal) → x ≢ code (slice_index_or kept.now.clause j d)) → list_at lists.new x ≡ list_at lists.old x }
 {
     let c = kept.clause.as_slice();
-    list_moved(lists, id, kept.first, i, c[i])?;
-    list_moved(lists, id, kept.second, j, c[j])?;
+    list_moved(lists, id, kept.first, i, c[i], c[j])?;
+    list_moved(lists, id, kept.second, j, c[j], c[i])?;
     Ok(())
 }

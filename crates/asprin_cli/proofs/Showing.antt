@@ -15,7 +15,7 @@ use Rattle.small_optima.specs.declared.optima.Optima.{Optima}
 use Rattle.small_optima.specs.declared.optima.Optima.TheVariants.{Unsatisfiable, Listing}
 use Rattle.asprin_cli.specs.Lines.{atom_text, numbered, set_line, status_of, text_of}
 use Rattle.asprin_cli.specs.Listed.{AreOptimaOf, end_of, kept_line, kept_of, kept_text, sets_in}
-use Rattle.asprin_cli.specs.Outcomes.{TextsEnd, TookPart, TookWhole, shown_of}
+use Rattle.asprin_cli.specs.Outcomes.{IsStatusOf, TextsEnd, TookPart, TookWhole, shown_of}
 use Rattle.asprin_cli.specs.declared.found.Found.{Found}
 
 -- what is left out leaves nothing, or what is left is gone over alone
@@ -67,6 +67,16 @@ found_whole files found status old new are named after =
       named = named;
       text = after;
     }
+
+-- the status is its own
+pub found_named : (files : List (List ℕ)) (found : Found) (status : Status) → AreOptimaOf files found → status ≡ status_of (end_of found.optima)
+    → IsStatusOf (TextsEnd files) status
+found_named files found status are named = (
+  map (kept_of found.shown) (sets_in found.optima),
+  end_of found.optima,
+  listed files are.statements found.shown are.shown_are found.optima are.accepted are.few are.optima_are,
+  named,
+)
 
 -- a front of it was taken
 pub found_part : (files : List (List ℕ)) (found : Found) (old new : List ℕ) → AreOptimaOf files found

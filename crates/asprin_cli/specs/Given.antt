@@ -6,7 +6,8 @@ use Rattle.asprin_cli.specs.declared.end.Refusal.{Refusal}
 use Rattle.asprin_cli.specs.declared.end.Refusal.TheVariants.{Usage, Bytes}
 use Rattle.asprin_cli.specs.Words.{files_of}
 
--- refused; the texts of the files, in order; or no answer without a fault of the source, since a name is that of no held input
+-- refused; the texts of the files, in order; or no answer without a fault of the source, since a name is that of no
+-- held input
 pub data Given : Type 0 where
   Refused : Refusal → Given
   Texts : List (List ℕ) → Given

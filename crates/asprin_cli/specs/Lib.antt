@@ -1,7 +1,10 @@
+pub mod Called
 pub mod Words
 pub mod Lines
 pub mod Given
+pub mod Uses
 pub mod Quits
 pub mod Outcomes
+pub mod Runs
 pub mod Stops
 pub mod Listed

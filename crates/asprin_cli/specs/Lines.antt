@@ -27,7 +27,8 @@ abbrev pub refusal_line : Refusal → List ℕ
 refusal_line Usage = codes "USAGE\n"
 refusal_line Bytes = codes "LIMIT bytes 16777216\n"
 refusal_line (Syntax file at) = codes "SYNTAX " ++ placed file at (codes "\n")
-refusal_line (Unsupported file at construct) = codes "UNSUPPORTED " ++ placed file at (codes " " ++ name_of construct ++ codes "\n")
+refusal_line (Unsupported file at construct) =
+    codes "UNSUPPORTED " ++ placed file at (codes " " ++ name_of construct ++ codes "\n")
 refusal_line (Limit which) = codes "LIMIT " ++ limit_text which ++ codes "\n"
 refusal_line (Later file at) = codes "UNSUPPORTED " ++ placed file at (codes " later\n")
 refusal_line (ConstTwice file at) = codes "NAMING " ++ placed file at (codes " const\n")

@@ -37,7 +37,8 @@ kept_text shown name = if is_kept shown name then atom_text name else []
 abbrev pub kept_line : Shown → ℕ → List (List ℕ) → List ℕ
 kept_line shown number set = set_line number (kept_of shown set)
 
--- these are the optima of the program that the texts of the files are accepted as, which has few enough atoms, and what is shown
+-- these are the optima of the program that the texts of the files are accepted as, which has few enough atoms, and
+-- what is shown
 pub record AreOptimaOf (files : List (List ℕ)) (found : Found) : Type 0 where
   pub statements : List Statement
   pub accepted : AreAccepted files statements

@@ -1,5 +1,5 @@
--- What a run may print, and how it may end. Where the inputs are told and no count of faults rises (nor stands at its end),
--- there is one outcome.
+-- What a run may print, and how it may end. Where the inputs are told and no count of faults rises (nor stands at its
+-- end), there is one outcome.
 use Rattle.std.specs.Prelude.{◌≡◌, ◌⊎◌, ℕ, ◌-◌, ◌<◌, ◌≤◌, IsTrue, List, [], ◌++◌, length, map, take, None, Some}
 use Rattle.std.specs.List.{filter}
 use Rattle.ap_base.specs.Fronts.{TookFront}
@@ -12,14 +12,14 @@ use Rattle.ap_eval.specs.AtomSets.{AtomSet}
 use Rattle.ap_lexemes.specs.declared.fault.ParseFault.TheVariants as fault
 use Rattle.ap_syntax.specs.declared.programs.Statement.{Statement}
 use Rattle.ap_syntax.specs.declared.small.Program.{Program}
-use Rattle.small_front.specs.Accepts.{AreAccepted}
-use Rattle.small_front.specs.Files.{AreRead, FirstFault}
+use Rattle.small_front.specs.Accepts.{AreAccepted, FrontCause}
 use Rattle.small_front.specs.Forms.{small_of}
-use Rattle.small_front.specs.Later.{first_later, place, second_const}
 use Rattle.small_front.specs.Shows.{is_shown}
+use Rattle.small_front.specs.declared.fault.FrontFault.TheVariants as front
 use Rattle.small_optima.specs.Atoms.{atom_count}
 use Rattle.asprin_cli.specs.Given as given
 use Rattle.asprin_cli.specs.Given.{Given, given_by}
+use Rattle.asprin_cli.specs.Uses.{SourceUse}
 use Rattle.asprin_cli.specs.Words.{asks_for}
 use Rattle.asprin_cli.specs.Lines.{status_of, text_of}
 use Rattle.small_optima.specs.Optimal.{IsSortedListing}
@@ -37,15 +37,15 @@ ListsOptima p sets Unsatisfiable = (sets ≡ []) × ((x : AtomSet) → IsAnswerS
 ListsOptima p sets (Source opened) = ⊥
 ListsOptima p sets (Refused refusal) = ⊥
 
--- When each refusal of texts comes, in this order: SYNTAX, UNSUPPORTED and the limits of a text where this is the first fault
--- of the files; what is not of the small language; a constant that is declared twice; more than 12 atoms in the rules.
+-- When each refusal of texts comes, in this order: SYNTAX, UNSUPPORTED and the limits of a text where this is the
+-- first fault of the files; what is not of the small language; a constant that is declared twice; more than 12 atoms
+-- in the rules.
 abbrev pub AreRefused : List (List ℕ) → Refusal → Type 0
-AreRefused files (Syntax file at) = FirstFault 1 files file (fault.Syntax at)
-AreRefused files (Unsupported file at construct) = FirstFault 1 files file (fault.Unsupported construct at)
-AreRefused files (Limit which) = (file : ℕ) × (at : ℕ) × FirstFault 1 files file (fault.Limit which at)
-AreRefused files (Later file at) = (ss : List Statement) × AreRead 1 files ss × (first_later ss ≡ Some (place file at))
-AreRefused files (ConstTwice file at) =
-    (ss : List Statement) × AreRead 1 files ss × (first_later ss ≡ None) × (second_const ss ≡ Some (place file at))
+AreRefused files (Syntax file at) = FrontCause files (front.Reading file (fault.Syntax at))
+AreRefused files (Unsupported file at construct) = FrontCause files (front.Reading file (fault.Unsupported construct at))
+AreRefused files (Limit which) = (file : ℕ) × (at : ℕ) × FrontCause files (front.Reading file (fault.Limit which at))
+AreRefused files (Later file at) = FrontCause files (front.Later file at)
+AreRefused files (ConstTwice file at) = FrontCause files (front.ConstTwice file at)
 AreRefused files Trial = (ss : List Statement) × AreAccepted files ss × (12 < atom_count (small_of ss))
 AreRefused files Usage = ⊥
 AreRefused files Bytes = ⊥
@@ -54,8 +54,8 @@ AreRefused files Bytes = ⊥
 abbrev pub shown_of : List Statement → List (List ℕ) → List (List ℕ)
 shown_of ss set = filter (is_shown ss) set
 
--- The listing of texts that are not refused: it has all atoms of its sets, of which those that are shown are printed. So two
--- sets may print equal atoms, and each of them counts.
+-- The listing of texts that are not refused: it has all atoms of its sets, of which those that are shown are printed.
+-- So two sets may print equal atoms, and each of them counts.
 pub record ListsShown (files : List (List ℕ)) (printed : List (List (List ℕ))) (end : End) : Type 0 where
   pub statements : List Statement
   pub accepted : AreAccepted files statements
@@ -74,28 +74,28 @@ GivenEnds (given.Refused refusal) printed end = (printed ≡ []) × (end ≡ Ref
 GivenEnds (given.Texts files) printed end = TextsEnd files printed end
 GivenEnds given.Unread printed end = ⊥
 
--- what a call did with the source: its counts of faults and of opens, before and after
-pub record Reads : Type 0 where
-  pub faults_before : ℕ
-  pub faults_now : ℕ
-  pub opens_before : ℕ
-  pub opens_now : ℕ
-
-abbrev pub reads : (faults_before faults_now opens_before opens_now : ℕ) → Reads
-reads faults_before faults_now opens_before opens_now =
-    record { faults_before = faults_before; faults_now = faults_now; opens_before = opens_before; opens_now = opens_now }
-
--- The source may fail at an input of this number, counted from 1: the words ask for so many, and those before it are held and within
--- the limit of bytes. Words that are refused ask for nothing.
+-- The source may fail at an input of this number, counted from 1: the words ask for so many, and those before it are
+-- held and within the limit of bytes. Words that are refused ask for nothing.
 abbrev pub MayFail : List (List ℕ) → List Input → ℕ → Type 0
-MayFail words held number = (0 < number) × (number ≤ length (asks_for words)) × IsTrue (is_whole (reading_of held (take (number - 1) (asks_for words)) 16777216))
+MayFail words held number =
+    (0 < number) × (number ≤ length (asks_for words))
+    × IsTrue (is_whole (reading_of held (take (number - 1) (asks_for words)) 16777216))
 
--- A run may print these atoms for each set and end so, with these words and inputs, where the source did that. SOURCE has the number of
--- the input that failed, which is the last that was opened, and comes with a fault alone; every other end comes without one.
-abbrev pub MayEnd : List (List ℕ) → List Input → Reads → List (List (List ℕ)) → End → Type 0
-MayEnd words held read printed (Source opened) =
-    (printed ≡ []) × MayFail words held opened × FailedAt opened read.faults_before read.faults_now read.opens_before read.opens_now
-MayEnd words held read printed end = (read.faults_now ≡ read.faults_before) × GivenEnds (given_by words held) printed end
+-- the source failed in the open of this number, or in reading what it opened
+abbrev pub FailsAt : SourceUse → ℕ → Type 0
+FailsAt source opened = FailedAt opened source.faults_before source.faults_now source.opens_before source.opens_now
+
+-- A run may print these atoms for each set and end so, with these words, where the source did that. SOURCE has the
+-- number of the input that failed, which is the last that was opened, and comes with a fault alone; every other end
+-- comes without one.
+abbrev pub MayEnd : List (List ℕ) → SourceUse → List (List (List ℕ)) → End → Type 0
+MayEnd words source printed (Source opened) = (printed ≡ []) × MayFail words source.held opened × FailsAt source opened
+MayEnd words source printed end =
+    (source.faults_now ≡ source.faults_before) × GivenEnds (given_by words source.held) printed end
+
+-- this is the status of an outcome
+abbrev pub IsStatusOf : (May : List (List (List ℕ)) → End → Type 0) → Status → Type 0
+IsStatusOf May status = (printed : List (List (List ℕ))) × (end : End) × May printed end × (status ≡ status_of end)
 
 -- the whole text of an outcome was taken, and this is its status
 pub record TookWhole (May : List (List (List ℕ)) → End → Type 0) (status : Status) (old new : List ℕ) : Type 0 where

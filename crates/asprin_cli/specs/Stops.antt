@@ -12,11 +12,14 @@ use Rattle.asprin_cli.specs.declared.end.End.TheVariants as ends
 use Rattle.asprin_cli.specs.declared.stop.Stop.{Stop}
 use Rattle.asprin_cli.specs.declared.stop.Stop.TheVariants.{Source, Refused, Memory}
 
--- Before there are texts: by the source, with the number of opens; by a refusal of the words or of the bytes; for want of
--- memory. Only the first comes with a fault.
-abbrev pub ReadStop : (tells : Bool) (words : List (List ℕ)) (held : List Input) (faults_before faults_now opens_before opens_now : ℕ) → Stop → Type 0
-ReadStop tells words held before now opens_before opens_now (Source opened) = (IsTrue tells → MayFail words held opened) × FailedAt opened before now opens_before opens_now
-ReadStop tells words held before now opens_before opens_now (Refused refusal) = (now ≡ before) × (IsTrue tells → given_by words held ≡ given.Refused refusal)
+-- Before there are texts: by the source, with the number of opens; by a refusal of the words or of the bytes; for
+-- want of memory. Only the first comes with a fault.
+abbrev pub ReadStop : (tells : Bool) (words : List (List ℕ)) (held : List Input)
+    (faults_before faults_now opens_before opens_now : ℕ) → Stop → Type 0
+ReadStop tells words held before now opens_before opens_now (Source opened) =
+    (IsTrue tells → MayFail words held opened) × FailedAt opened before now opens_before opens_now
+ReadStop tells words held before now opens_before opens_now (Refused refusal) =
+    (now ≡ before) × (IsTrue tells → given_by words held ≡ given.Refused refusal)
 ReadStop tells words held before now opens_before opens_now Memory = now ≡ before
 
 -- at texts: by their refusal, or for want of memory

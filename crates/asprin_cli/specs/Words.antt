@@ -15,7 +15,8 @@ are_files names = nat_lt 0 (length names) && nat_le (length names) 10000 && list
 -- the names of the files, where the words are of this form
 abbrev pub files_of : List (List ℕ) → Option (List (List ℕ))
 files_of (sorted ∷ number ∷ all ∷ names) =
-    if bytes_eq sorted (codes "--sorted") && bytes_eq number (codes "-n") && bytes_eq all (codes "0") && are_files names then Some names else None
+    if bytes_eq sorted (codes "--sorted") && bytes_eq number (codes "-n") && bytes_eq all (codes "0") && are_files names
+    then Some names else None
 files_of _ = None
 
 abbrev pub names_in : Option (List (List ℕ)) → List (List ℕ)

@@ -6,8 +6,8 @@ use ap_base::Status;
 use ap_lexemes::{Construct, Limit};
 use std::alloc::{AllocError, Global};
 
-/// What is wrong with the words and the input, in the order in which it is looked for. Files are numbered from 1, and their bytes
-/// from 0.
+/// What is wrong with the words and the input, in the order in which it is looked for. Files are numbered from 1, and
+/// their bytes from 0.
 #[derive(Clone, Copy, Debug, PartialEq, Eq)]
 pub enum Refusal {
     /// The words are not of the form `--sorted -n 0 FILE..`, with at most 10,000 files.
@@ -53,7 +53,7 @@ pub enum Refusal {
 /// How a run ends.
 #[derive(Clone, Copy, Debug, PartialEq, Eq)]
 pub enum End {
-    /// The source failed; the number counts the inputs that were opened.
+    /// The source failed in the open of this number, counted from 1, or in reading what it opened.
     Source(u64),
     Refused(Refusal),
     /// There is no answer set.

@@ -23,7 +23,8 @@ pub fn read_files<S: Source>(
     words: &[String],
     src: &mut S,
 ) -> Result<Vec<Vec<u8>>, Stop>
-    ensures texts { IsTrue S.tells → IfOk result (λ files. given_by (texts_of words.now) (S.held src.old) ≡ Texts (bytes_of files.items)) }
+    ensures texts { IsTrue S.tells → IfOk result
+        (λ files. given_by (texts_of words.now) (S.held src.old) ≡ Texts (bytes_of files.items)) }
     ensures sizes { IfOk result (λ files. All (λ file. length file.items ≤ 16777216) files.items) }
     ensures few { IfOk result (λ files. length files.items ≤ 10000) }
     ensures kept { OnOk result (S.faults src.new ≡ S.faults src.old) }
@@ -31,7 +32,8 @@ pub fn read_files<S: Source>(
     ensures stop { IfErr result (ReadStop S.tells (texts_of words.now) (S.held src.old)
         (S.faults src.old) (S.faults src.new) (S.opens src.old) (S.opens src.new)) }
     ensures opens { S.opens src.new ≤ counted (S.opens src.old) (length (asks_for (texts_of words.now))) }
-    ensures absent { IsTrue S.tells → AllHeld (S.held src.old) (asks_for (texts_of words.now)) → S.absent src.new ≡ S.absent src.old }
+    ensures absent { IsTrue S.tells → AllHeld (S.held src.old) (asks_for (texts_of words.now))
+        → S.absent src.new ≡ S.absent src.old }
 {
     let Some(names) = read_words(words) else {
         return Err(Stop::Refused(Refusal::Usage));

@@ -2,19 +2,23 @@
 #![tactic(auto)]
 
 mod end;
+mod ended;
 mod found;
 mod input;
 mod listing;
 mod print;
+mod program;
 mod quit;
-mod run;
+mod solve;
 mod stop;
 #[cfg(test)]
 mod tests;
 mod words;
 
 pub use end::{End, Refusal};
+pub use ended::Ended;
 pub use found::Found;
+pub use program::run;
 pub use quit::Quit;
-pub use run::solve_run;
+pub use solve::solve_run;
 pub use stop::Stop;

@@ -18,8 +18,10 @@ use std::alloc::Global;
 /// Prints the lines of these sets, with the atoms that are shown, numbered from 1, and then that they are all.
 fn print_sets<O: Sink>(alloc: Global, sets: &[Items<Text>], shown: &Shown, out: &mut O) -> Status
     ensures named { is_cut result ≡ false → result ≡ Status.Done }
-    ensures all { IsTrue O.tells → is_cut result ≡ false → O.taken out.new ≡ O.taken out.old ++ (numbered (kept_line shown.now) 1 sets.now ++ line_of (ends.Done (length sets.now))) }
-    ensures part { IsTrue O.tells → is_cut result ≡ true → TookFront (O.taken out.old) (O.taken out.new) (numbered (kept_line shown.now) 1 sets.now ++ line_of (ends.Done (length sets.now))) }
+    ensures all { IsTrue O.tells → is_cut result ≡ false → O.taken out.new
+        ≡ O.taken out.old ++ (numbered (kept_line shown.now) 1 sets.now ++ line_of (ends.Done (length sets.now))) }
+    ensures part { IsTrue O.tells → is_cut result ≡ true → TookFront (O.taken out.old) (O.taken out.new)
+        (numbered (kept_line shown.now) 1 sets.now ++ line_of (ends.Done (length sets.now))) }
     ensures kept { result ≢ Status.Sink → O.faults out.new ≡ O.faults out.old }
     ensures rose { result ≡ Status.Sink → Rose (O.faults out.old) (O.faults out.new) }
 {
@@ -37,8 +39,10 @@ fn print_sets<O: Sink>(alloc: Global, sets: &[Items<Text>], shown: &Shown, out: 
 #[tactic(auto, using(crate::proofs::Showing::kept_lines))]
 pub fn print_optima<O: Sink>(alloc: Global, optima: &Optima, shown: &Shown, out: &mut O) -> Status
     ensures named { is_cut result ≡ false → result ≡ status_of (end_of optima.now) }
-    ensures all { IsTrue O.tells → is_cut result ≡ false → O.taken out.new ≡ O.taken out.old ++ text_of (map (kept_of shown.now) (sets_in optima.now)) (end_of optima.now) }
-    ensures part { IsTrue O.tells → is_cut result ≡ true → TookFront (O.taken out.old) (O.taken out.new) (text_of (map (kept_of shown.now) (sets_in optima.now)) (end_of optima.now)) }
+    ensures all { IsTrue O.tells → is_cut result ≡ false → O.taken out.new
+        ≡ O.taken out.old ++ text_of (map (kept_of shown.now) (sets_in optima.now)) (end_of optima.now) }
+    ensures part { IsTrue O.tells → is_cut result ≡ true → TookFront (O.taken out.old) (O.taken out.new)
+        (text_of (map (kept_of shown.now) (sets_in optima.now)) (end_of optima.now)) }
     ensures kept { result ≢ Status.Sink → O.faults out.new ≡ O.faults out.old }
     ensures rose { result ≡ Status.Sink → Rose (O.faults out.old) (O.faults out.new) }
 {

@@ -58,8 +58,10 @@ pub fn print_set<O: Sink>(
     shown: &Shown,
     out: &mut O,
 ) -> Result<(), Quit>
-    ensures all { IsTrue O.tells → OnOk result (O.taken out.new ≡ O.taken out.old ++ kept_line shown.now number set.now) }
-    ensures part { IsTrue O.tells → OnErr result (TookFront (O.taken out.old) (O.taken out.new) (kept_line shown.now number set.now)) }
+    ensures all { IsTrue O.tells
+        → OnOk result (O.taken out.new ≡ O.taken out.old ++ kept_line shown.now number set.now) }
+    ensures part { IsTrue O.tells
+        → OnErr result (TookFront (O.taken out.old) (O.taken out.new) (kept_line shown.now number set.now)) }
     ensures kept { OnOk result (O.faults out.new ≡ O.faults out.old) }
     ensures cause { IfErr result (QuitCause (O.faults out.old) (O.faults out.new)) }
 {
@@ -73,7 +75,8 @@ pub fn print_set<O: Sink>(
 pub fn print_end<O: Sink>(alloc: Global, end: &End, out: &mut O) -> Status
     ensures named { is_cut result ≡ false → result ≡ status_of end.now }
     ensures all { IsTrue O.tells → is_cut result ≡ false → O.taken out.new ≡ O.taken out.old ++ line_of end.now }
-    ensures part { IsTrue O.tells → is_cut result ≡ true → TookFront (O.taken out.old) (O.taken out.new) (line_of end.now) }
+    ensures part { IsTrue O.tells → is_cut result ≡ true
+        → TookFront (O.taken out.old) (O.taken out.new) (line_of end.now) }
     ensures kept { result ≢ Status.Sink → O.faults out.new ≡ O.faults out.old }
     ensures rose { result ≡ Status.Sink → Rose (O.faults out.old) (O.faults out.new) }
 {

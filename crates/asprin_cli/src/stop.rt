@@ -4,7 +4,7 @@ use crate::Refusal;
 /// Why there is nothing to list.
 #[derive(Clone, Copy, Debug, PartialEq, Eq)]
 pub enum Stop {
-    /// The source failed in or after this many opens.
+    /// The source failed in the open of this number, counted from 1, or in reading what it opened.
     Source(u64),
     /// The words or the input are refused.
     Refused(Refusal),

@@ -1,7 +1,11 @@
 // Runs over inputs in memory, with the exact lines and statuses.
-use crate::solve_run;
+use crate::{Ended, run, solve_run};
 use ap_base::{MemSink, MemSource, NamedBytes, Status};
 use std::alloc::{AllocError, Global};
+use std::env::Args;
+use std::io;
+use std::io::ErrorKind;
+use std::process::{ExitCode, Termination};
 use std::test::Fail;
 
 const ONE_FILE: [&str; 4] = ["--sorted", "-n", "0", "f"];
@@ -321,6 +325,32 @@ fn failing_source_and_sink(rt: HostRuntime) -> Result<(), Fail> {
     };
     for (at, case) in [opening, first_read, sink].iter().enumerate() {
         assert!(rt; passes(rt.alloc(), case)?, "case {at}");
+    }
+    Ok(())
+}
+
+/// The end of a run of the program that is called with this, over the files `f` and `g`, and the bytes that it wrote.
+fn ended(alloc: Global, all: io::Result<Args>) -> Result<(Ended, Vec<u8>), AllocError> {
+    let mut src = source_of(alloc, ROW, b"a", &[])?;
+    let mut out = MemSink::new(alloc, 100, Vec::new(alloc))?;
+    let mut cert = MemSink::new(alloc, 0, Vec::new(alloc))?;
+    let end = run(alloc, all, &mut src, &mut out, &mut cert);
+    Ok((end, Vec::from_slice(alloc, out.bytes())?))
+}
+
+#[test]
+fn program(rt: HostRuntime) -> Result<(), Fail> {
+    let named = words_of(rt.alloc(), &["asprin", "--sorted", "-n", "0", "f", "g"])?;
+    let no_text = io::Error::from(ErrorKind::InvalidData);
+    let no_memory = io::Error::from(ErrorKind::OutOfMemory);
+    for (all, code, lines) in [
+        (Ok(named.into_iter()), 20, "SYNTAX 2:1\n"),
+        (Err(no_text), 16, "USAGE\n"),
+        (Err(no_memory), 19, ""),
+    ] {
+        let (end, written) = ended(rt.alloc(), all)?;
+        assert!(rt; written.as_slice() == lines.as_bytes(), "{lines}");
+        assert!(rt; end.report(&rt) == ExitCode::from(code), "{lines}");
     }
     Ok(())
 }

@@ -34,7 +34,8 @@ fn is_file_list(words: &[String]) -> bool
 
 /// The names of the files, where the words are `--sorted -n 0 FILE..`.
 pub fn read_words(words: &[String]) -> Option<&[String]>
-    ensures { MatchOption result (files_of (texts_of words.now) ≡ None) (λ files. files_of (texts_of words.now) ≡ Some (texts_of files.now)) }
+    ensures { MatchOption result (files_of (texts_of words.now) ≡ None)
+        (λ files. files_of (texts_of words.now) ≡ Some (texts_of files.now)) }
 {
     match words {
         [sorted, number, all, names @ ..]

@@ -1,7 +1,7 @@
 -- The tokens of a text, each with the knowledge that it is one, and what its terminal tells of its characters.
 use Rattle.std.proofs.Common.{◌≡◌, ◌≢◌, ℕ, ◌+◌, ◌*◌, ◌-◌, ◌≤◌, Bool, true, false, not, ◌&&◌, List, [], ◌∷◌, ◌++◌, length, map, drop, refl, sym, ap, subst, ◌∙◌, ◌||◌, arith, if◌then◌else◌}
 use Rattle.std.specs.Prelude.{codes, fold, nat_le, slice_range}
-use Rattle.std.specs.Str.{bytes_eq}
+use Rattle.std.specs.Str.{IsUtf8, bytes_eq}
 use Rattle.std.proofs.lemmas.Bool.{and_parts, and_from}
 use Rattle.std.proofs.lemmas.Bool.Decides.{nat_tests}
 use Rattle.std.proofs.lemmas.List.{append-nil, length-append}
@@ -19,7 +19,8 @@ use Rattle.ap_lex.proofs.SoundLemmas.{token_stands}
 use Rattle.ap_lex.proofs.WordLemmas.{capital_is_no_digit, capital_is_word_byte, small_is_no_digit, small_is_word_byte, word_passes, word_start}
 use Rattle.ap_grammar.specs.declared.terminals.Terminal.{Terminal}
 use Rattle.ap_grammar.specs.declared.terminals.Terminal.TheVariants as t
-use Rattle.ap_grammar.specs.Lexemes.{Lexeme, decimal}
+use Rattle.ap_syntax.specs.CanonicalTerms.{quoted}
+use Rattle.ap_grammar.specs.Lexemes.{Lexeme, decimal, string_of}
 use Rattle.ap_grammar.specs.Tables.{same}
 use Rattle.ap_grammar.specs.Values.{Value, Class, class_of}
 use Rattle.ap_grammar.specs.Grammar.{Name, Rhs, grammar, made, rule_of}
@@ -31,12 +32,14 @@ use Rattle.canonical_law.proofs.Spells.{Is}
 use Rattle.canonical_law.proofs.Names.{GoodName}
 use Rattle.canonical_law.proofs.Numbers.{GoodNumber, good_number}
 use Rattle.canonical_law.proofs.Terms.{GoodVariable}
+use Rattle.canonical_law.proofs.Encoded.{same_string, string_text}
 
 -- ---- tokens with what they are
 
 pub record Fine : Type 0 where
   pub token : Lexeme
   pub is : Is token token.bytes
+  pub text : token.terminal ≡ t.String → IsUtf8 token.bytes
 
 abbrev pub fine_grammar : Grammar Name Terminal Class Fine Value
 fine_grammar = record { kind = λ x. x.token.terminal; leaf = λ x. Value.token x.token ∷ []; rule = rule_of; build = made; class = class_of }
@@ -67,47 +70,6 @@ lift us e (Derives.right d) = let p = lift us e d in record { rest = p.rest; is 
 lift us e Derives.none = record { rest = us; is = e; derives = Derives.none }
 lift us e (Derives.more d f) = let p = lift us e d in let q = lift p.rest p.is f in record { rest = q.rest; is = q.is; derives = Derives.more p.derives q.derives }
 lift us e (Derives.followed d f) = let p = lift us e d in let q = lift p.rest p.is f in record { rest = q.rest; is = q.is; derives = Derives.followed p.derives q.derives }
-
--- ---- the tokens of a text are so
-
-ends_anywhere : (kind : Kind) (bytes rest : List ℕ) → is_token kind bytes rest ≡ true → is_token kind bytes [] ≡ true
-ends_anywhere kinds.Num bytes rest h = and_from _ _ (and_parts (is_number bytes) _ h).0 refl
-ends_anywhere kinds.Ident bytes rest h = h
-ends_anywhere kinds.Not bytes rest h = h
-ends_anywhere kinds.Var bytes rest h = h
-ends_anywhere kinds.Any bytes rest h = and_from _ _ (and_parts (bytes_eq bytes (codes "_")) _ h).0 refl
-ends_anywhere kinds.Str bytes rest h = h
-ends_anywhere kinds.Directive bytes rest h = h
-ends_anywhere kinds.Sign bytes rest h = h
-
-record AreFine (xs : List Lexeme) : Type 0 where
-  tokens : List Fine
-  are : plain tokens ≡ xs
-
-pub fine_tokens : (text : List ℕ) (file : ℕ) {from to : ℕ} {ts : List Token} → Reads text from ts to → (us : List Fine) × (plain us ≡ lexemes_of text file ts)
-fine_tokens text file Reads.nothing = ([], refl)
-fine_tokens text file (Reads.gap g r) = fine_tokens text file r
-fine_tokens text file (Reads.token {from = from} {middle = middle} {kind = kind} l r) =
-    let q = fine_tokens text file r in
-    let w = slice_range text from middle in
-    let o = alone kind w (ends_anywhere kind w (drop middle text) l.token.form) in
-    (record { token = record { terminal = terminal_of kind w; bytes = w; file = file; at = from }; is = record { kind = kind; one = o; bytes = refl; terminal = refl } } ∷ q.0, ap (λ us. record { terminal = terminal_of kind w; bytes = w; file = file; at = from } ∷ us) q.1)
-
--- ---- the form of a token
-
-pub has_form : (w : List ℕ) (kind : Kind) → IsOneToken w kind → is_token kind w [] ≡ true
-has_form w kind o =
-    let s = token_stands w (pieces.Token kind (length w)) o in
-    let k : s.kind ≡ kind = let e = s.is in cc in
-    let n : s.len ≡ length w = let e = s.is in cc in
-    let split = s.stands.split in
-    let whole = ap length split in
-    let none : length s.stands.rest ≡ 0 = omega (arith, whole, length-append s.stands.bytes s.stands.rest, s.stands.len_is, n) in
-    form_of s.stands.bytes s.stands.rest none split k s.stands.has_form
-  where
-    form_of : (bytes rest : List ℕ) {j : Kind} → length rest ≡ 0 → w ≡ bytes ++ rest → j ≡ kind → is_token j bytes rest ≡ true → is_token kind w [] ≡ true
-    form_of bytes [] n e k h = rw (k, sym (e ∙ append-nil bytes)) at h
-    form_of bytes (b ∷ bs) n e k h = absurd (omega (arith, n))
 
 -- ---- which kind has which terminal
 
@@ -180,6 +142,61 @@ variable_kind_is kinds.Str bytes e = absurd cc
 variable_kind_is kinds.Directive bytes e = absurd (not_found t.Variable directives bytes t.Stray refl (λ f. cc) e)
 variable_kind_is kinds.Sign bytes e = absurd (not_found t.Variable signs bytes t.Stray refl (λ f. cc) e)
 
+string_kind_is : (kind : Kind) (bytes : List ℕ) → terminal_of kind bytes ≡ t.String → kind ≡ kinds.Str
+unfolding none_has
+string_kind_is kinds.Num bytes e = absurd cc
+string_kind_is kinds.Ident bytes e = absurd (not_found t.String words bytes t.Word refl (λ f. cc) e)
+string_kind_is kinds.Not bytes e = absurd cc
+string_kind_is kinds.Var bytes e = absurd cc
+string_kind_is kinds.Any bytes e = absurd cc
+string_kind_is kinds.Str bytes e = refl
+string_kind_is kinds.Directive bytes e = absurd (not_found t.String directives bytes t.Stray refl (λ f. cc) e)
+string_kind_is kinds.Sign bytes e = absurd (not_found t.String signs bytes t.Stray refl (λ f. cc) e)
+
+-- ---- the tokens of a text are so
+
+ends_anywhere : (kind : Kind) (bytes rest : List ℕ) → is_token kind bytes rest ≡ true → is_token kind bytes [] ≡ true
+ends_anywhere kinds.Num bytes rest h = and_from _ _ (and_parts (is_number bytes) _ h).0 refl
+ends_anywhere kinds.Ident bytes rest h = h
+ends_anywhere kinds.Not bytes rest h = h
+ends_anywhere kinds.Var bytes rest h = h
+ends_anywhere kinds.Any bytes rest h = and_from _ _ (and_parts (bytes_eq bytes (codes "_")) _ h).0 refl
+ends_anywhere kinds.Str bytes rest h = h
+ends_anywhere kinds.Directive bytes rest h = h
+ends_anywhere kinds.Sign bytes rest h = h
+
+record AreFine (xs : List Lexeme) : Type 0 where
+  tokens : List Fine
+  are : plain tokens ≡ xs
+
+form_as : {kind other : Kind} (bytes rest : List ℕ) → kind ≡ other → is_token kind bytes rest ≡ true → is_token other bytes rest ≡ true
+form_as bytes rest e h = rw e at h
+
+pub fine_tokens : (text : List ℕ) (file : ℕ) → IsUtf8 text → {from to : ℕ} {ts : List Token} → Reads text from ts to → (us : List Fine) × (plain us ≡ lexemes_of text file ts)
+fine_tokens text file u Reads.nothing = ([], refl)
+fine_tokens text file u (Reads.gap g r) = fine_tokens text file u r
+fine_tokens text file u (Reads.token {from = from} {middle = middle} {kind = kind} l r) =
+    let q = fine_tokens text file u r in
+    let w = slice_range text from middle in
+    let o = alone kind w (ends_anywhere kind w (drop middle text) l.token.form) in
+    (record { token = record { terminal = terminal_of kind w; bytes = w; file = file; at = from }; is = record { kind = kind; one = o; bytes = refl; terminal = refl }; text = λ e. string_text text from middle u l.token.within (form_as w (drop middle text) (string_kind_is kind w e) l.token.form) } ∷ q.0, ap (λ us. record { terminal = terminal_of kind w; bytes = w; file = file; at = from } ∷ us) q.1)
+
+-- ---- the form of a token
+
+pub has_form : (w : List ℕ) (kind : Kind) → IsOneToken w kind → is_token kind w [] ≡ true
+has_form w kind o =
+    let s = token_stands w (pieces.Token kind (length w)) o in
+    let k : s.kind ≡ kind = let e = s.is in cc in
+    let n : s.len ≡ length w = let e = s.is in cc in
+    let split = s.stands.split in
+    let whole = ap length split in
+    let none : length s.stands.rest ≡ 0 = omega (arith, whole, length-append s.stands.bytes s.stands.rest, s.stands.len_is, n) in
+    form_of s.stands.bytes s.stands.rest none split k s.stands.has_form
+  where
+    form_of : (bytes rest : List ℕ) {j : Kind} → length rest ≡ 0 → w ≡ bytes ++ rest → j ≡ kind → is_token j bytes rest ≡ true → is_token kind w [] ≡ true
+    form_of bytes [] n e k h = rw (k, sym (e ∙ append-nil bytes)) at h
+    form_of bytes (b ∷ bs) n e k h = absurd (omega (arith, n))
+
 -- ---- what tokens tell
 
 one_of : (x : Fine) {kind : Kind} → x.is.kind ≡ kind → IsOneToken x.token.bytes kind
@@ -212,7 +229,7 @@ preference_name x e = name_of x (preference_kind_is x.is.kind x.token.bytes (kin
 pub variable_of : (x : Fine) → x.token.terminal ≡ t.Variable → GoodVariable x.token.bytes
 variable_of x e =
     let k = variable_kind_is x.is.kind x.token.bytes (kind_by x e) in
-    record { one = one_of x k; apart = λ rest r. apart_word is_capital_letter x.token.bytes rest capital_is_word_byte capital_is_no_digit (form_of x k) r }
+    record { one = one_of x k; passes = word_passes is_capital_letter capital_is_word_byte x.token.bytes (form_of x k); apart = λ rest r. apart_word is_capital_letter x.token.bytes rest capital_is_word_byte capital_is_no_digit (form_of x k) r }
 
 times_ten : (n d : ℕ) → 10 * n + (d - 48) ≡ n * 10 + (d - 48)
 times_ten n d = omega arith
@@ -229,6 +246,10 @@ number_of_token x e =
     let k = number_kind_is x.is.kind x.token.bytes (kind_by x e) in
     let h = (and_parts (is_number x.token.bytes) _ (form_of x k)).0 in
     good_number (decimal x.token.bytes) (in_bounds (number_of x.token.bytes) (decimal x.token.bytes) (same_number 0 x.token.bytes) (and_parts _ (nat_le (number_of x.token.bytes) 2147483647) h).1)
+
+-- a string is written with the characters that were read
+pub string_of_token : (x : Fine) → x.token.terminal ≡ t.String → IsUtf8 (quoted (string_of x.token.bytes))
+string_of_token x e = subst IsUtf8 (sym (same_string x.token.bytes (form_of x (string_kind_is x.is.kind x.token.bytes (kind_by x e))))) (x.text e)
 
 -- ---- signs of one spelling
 

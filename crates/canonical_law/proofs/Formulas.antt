@@ -200,7 +200,7 @@ or_between = record {
   ends = λ rest. refl;
 }
 
-pieces_at : (n : ℕ) (fs : List Formula) → map (at_least n) (map formula_written fs) ≡ map (λ f. at_least n (formula_written f)) fs
+pub pieces_at : (n : ℕ) (fs : List Formula) → map (at_least n) (map formula_written fs) ≡ map (λ f. at_least n (formula_written f)) fs
 pieces_at n [] = refl
 pieces_at n (f ∷ fs) = ap (λ ps. at_least n (formula_written f) ∷ ps) (pieces_at n fs)
 

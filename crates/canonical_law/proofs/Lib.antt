@@ -8,6 +8,7 @@ pub mod Numbers
 pub mod Strings
 pub mod Lists
 pub mod Terms
+pub mod WrittenTerms
 pub mod Literals
 pub mod Braces
 pub mod Items
@@ -19,8 +20,17 @@ pub mod Statements
 pub mod Kept
 pub mod Texts
 pub mod Tokens
+pub mod Encoded
 pub mod Fine
+pub mod Costs
+pub mod Room
 pub mod Says
+pub mod Covers
+pub mod CoverTerms
+pub mod CoverRules
+pub mod CoverPreferences
+pub mod CoverStatements
+pub mod Covering
 pub mod ReadTerms
 pub mod ReadRules
 pub mod ReadPreferences

@@ -6,8 +6,9 @@ use Rattle.std.proofs.lemmas.Bool.Decides.{nat_tests}
 use Rattle.std.proofs.lemmas.List.Sums.{fold-append}
 use Rattle.std.proofs.lemmas.List.Folds.{list_all-append}
 use Rattle.std.specs.Fmt.{decimal}
+use Rattle.std.specs.Str.{IsAscii}
 use Rattle.std.specs.List.{list_all}
-use Rattle.std.proofs.lemmas.Fmt.{decimal_by_steps, decimal_digit}
+use Rattle.std.proofs.lemmas.Fmt.{IsAscii-decimal, decimal_by_steps, decimal_digit}
 use Rattle.ap_lex.specs.Bytes.{begins_with, is_between, is_digit}
 use Rattle.ap_lex.specs.Forms.{is_number, is_numeral, number_of}
 use Rattle.ap_lex.specs.declared.token.Kind.TheVariants.{Num}
@@ -59,6 +60,7 @@ pub record GoodNumber (n : ℕ) : Type 0 where
   pub one : IsOneToken (decimal n) Num
   pub apart : (rest : List ℕ) → Ends rest → Apart (decimal n) rest
   pub value : g.decimal (decimal n) ≡ n
+  pub ascii : IsAscii (decimal n)
 
 numeral : (n : ℕ) → Writes n (decimal n) → is_numeral (decimal n) ≡ true
 numeral zero w = rw (decimal_digit 0 (omega arith)) refl
@@ -79,4 +81,5 @@ good_number n h =
       one = alone Num (decimal n) (and_from _ _ is refl);
       apart = λ rest e. apart_by (decimal n) rest is w.digits e;
       value = w.same;
+      ascii = IsAscii-decimal n (omega (arith, h));
     }

@@ -1,5 +1,5 @@
 -- The canonical text of a program that was read, read back.
-use Rattle.std.proofs.Common.{◌≡◌, ℕ, Bool, true, false, cond, List, [], ◌∷◌, ◌++◌, map, refl, sym, ap, subst, ◌∙◌, Ok}
+use Rattle.std.proofs.Common.{◌≡◌, ◌≢◌, ℕ, Bool, true, false, cond, List, [], ◌∷◌, ◌++◌, map, refl, sym, ap, subst, ◌∙◌, Ok, Err}
 use Rattle.grammar.specs.Fault.{IsText}
 use Rattle.grammar.specs.Form.Form.{Call}
 use Rattle.grammar.proofs.Interpret.{Reads, read}
@@ -25,6 +25,9 @@ use Rattle.ap_lex.specs.declared.token.Token.{Token}
 use Rattle.ap_lexemes.specs.Lexemes.{lexemes_of}
 use Rattle.ap_lexemes.specs.Texts.{AreLexemes, IsOutcome}
 use Rattle.ap_parse.specs.Texts.{IsReading}
+use Rattle.ap_parse.proofs.TextLemmas.{one_answer}
+use Rattle.ap_lexemes.specs.declared.fault.ParseFault.{ParseFault}
+use Rattle.ap_lexemes.specs.declared.fault.ParseFault.TheVariants as faults
 use Rattle.ap_parse.specs.Changes.{changing, same_part}
 use Rattle.ap_parse.specs.Openings.{is_of_type}
 use Rattle.ap_grammar.specs.Lexemes.{Lexeme}
@@ -36,7 +39,7 @@ use Rattle.canonical_law.proofs.Kept.{changing_again, changing_formulas, none_le
 use Rattle.limit_law.specs.Programs.{formulas_of}
 use Rattle.limit_law.proofs.FirstLimits.{accepted, other_first, text_tells}
 use Rattle.limit_law.proofs.Tells.{all_in_bounds}
-use Rattle.std.specs.Prelude.{None, length, nat_lt, take}
+use Rattle.std.specs.Prelude.{None, Result, length, nat_lt, take}
 use Rattle.std.specs.Str.{IsUtf8}
 use Rattle.std.specs.Str.Lossy.{utf8_valid_len}
 use Rattle.std.proofs.Common.{arith}
@@ -52,6 +55,9 @@ use Rattle.canonical_law.proofs.Statements.{GoodStatement}
 use Rattle.canonical_law.proofs.Tokens.{tokens_of}
 use Rattle.canonical_law.proofs.Fine.{Fine, fine_tokens, lift}
 use Rattle.canonical_law.proofs.Says.{Has, Says, Tells}
+use Rattle.canonical_law.proofs.Lists.{Each}
+use Rattle.canonical_law.proofs.Encoded.{longest_front}
+use Rattle.canonical_law.proofs.Covering.{HasRoom, lines_text, lines_within, neither, room_kept, statements_room}
 use Rattle.canonical_law.proofs.ReadTerms.{arguments_say, atom_says, ident_says, primary_says, product_says, sum_says, term_says, unary_says}
 use Rattle.canonical_law.proofs.ReadRules.{agg_element_says, aggregate_says, body_says, choice_element_says, condition_says, conditional_says, head_says, left_guard_says, literal_says, literals_say, open_item_says, relation_says, right_guard_says, rule_says}
 use Rattle.canonical_law.proofs.ReadPreferences.{conjunction_says, domain_says, element_says, formula_says, given_says, member_says, ranked_says, target_says}
@@ -115,10 +121,10 @@ good_text : {whole of_type : Bool} (part : PartKind) (ss : List Statement) → i
 good_text part ss t s = let e = same_program s.1 in let g = s.2 part t in rw (sym e) at g
 
 -- the statements of a text read back
-statements_good : {whole : Bool} (part : PartKind) (text : List ℕ) (file : ℕ) (ts : List Token) (from to : ℕ) (ss : List Statement) → TokenReads text from ts to
+statements_good : {whole : Bool} (part : PartKind) (text : List ℕ) (file : ℕ) (ts : List Token) (from to : ℕ) (ss : List Statement) → IsUtf8 text → TokenReads text from ts to
     → IsText grammar (Name.Text whole (is_of_type part)) (lexemes_of text file ts) (program ss) → GoodProgram whole part ss
-statements_good part text file ts from to ss r d =
-    let q = fine_tokens text file r in
+statements_good part text file ts from to ss u r d =
+    let q = fine_tokens text file u r in
     let l = lift q.0 q.1 d in
     good_text part ss refl (good_of (read step l.derives))
 
@@ -160,29 +166,38 @@ lexemes_are text file ts u r =
     record { tokens = ts; reads = subst (λ t. ReadsUpTo t ts (length text)) (sym e) (record { reads = r; stops = end_begins_nothing text }); are = ap (λ t. lexemes_of t file ts) (sym e) }
 
 is_read : (whole : Bool) (part : PartKind) (text : List ℕ) (file : ℕ) (ts : List Token) (ss : List Statement) → IsTokens text ts → IsText grammar (Name.Text whole (is_of_type part)) (lexemes_of text file ts) (program ss)
-    → changing part ss ≡ ss → IsUtf8 text → first_limit (lexemes_of text file ts) ≡ None → IsReading whole part text file (Ok (record { statements = ss }))
-is_read whole part text file ts ss r d c u f = IsReading.program (lexemes_are text file ts u r) (IsOutcome.good d f (no_cut (length text))) (sym c)
+    → changing part ss ≡ ss → first_limit (lexemes_of text file ts) ≡ None → IsUtf8 text → IsReading whole part text file (Ok (record { statements = ss }))
+is_read whole part text file ts ss r d c f u = IsReading.program (lexemes_are text file ts u r) (IsOutcome.good d f (no_cut (length text))) (sym c)
 
-read_back : (whole : Bool) (part : PartKind) (p : Program) → GoodProgram whole part p.statements → changing part p.statements ≡ p.statements → all_in_bounds (formulas_of p.statements) ≡ true → (file : ℕ) → ReadsBack whole part p file
-read_back whole part p g c f file =
+read_back : (whole : Bool) (part : PartKind) (p : Program) → GoodProgram whole part p.statements → changing part p.statements ≡ p.statements → all_in_bounds (formulas_of p.statements) ≡ true → Each HasRoom p.statements → (file : ℕ) → ReadsBack whole part p file
+read_back whole part p g c f h file =
     let q = tokens_of file (canonical_pieces p) (lines_clear part p.statements [] g) in
     let r = text_read part p.statements g q.spelled in
     let kept = none_left_out part r.read p.statements c r.same in
     let bounds = ap all_in_bounds (sym (same_formulas r.read) ∙ (ap formulas_of r.same ∙ same_formulas p.statements)) ∙ f in
+    let text = lines_text p.statements h in
+    let none = neither _ (lines_within p.statements h q.spelled 0) (other_first _ (formulas_of r.read) (text_tells r.text) bounds) in
     record {
       statements = r.read;
       are = record { tokens = q.tokens; are = q.are; text_is = r.text };
       same = r.same;
-      formulas = other_first _ (formulas_of r.read) (text_tells r.text) bounds;
-      is_read = λ u l. is_read whole part (canonical_text p) file q.tokens r.read q.are r.text kept u l;
+      no_limit = none;
+      is_utf8 = text;
+      is_read = is_read whole part (canonical_text p) file q.tokens r.read q.are r.text kept none text;
     }
 
-law_of : {whole : Bool} (part : PartKind) (ss : List Statement) (p : Program) → GoodProgram whole part ss → all_in_bounds (formulas_of ss) ≡ true → p.statements ≡ changing part ss → (other : ℕ) → ReadsBack whole part p other
-law_of {whole = whole} part ss p g f e other =
-    read_back whole part p (good_as e (changing_good part ss g)) (ap (changing part) e ∙ (changing_again part ss ∙ sym e)) (ap all_in_bounds (ap formulas_of e ∙ changing_formulas part ss) ∙ f) other
+room_as : {ss ts : List Statement} → ss ≡ ts → Each HasRoom ts → Each HasRoom ss
+room_as e h = rw (sym e) at h
+
+law_of : {whole : Bool} (part : PartKind) (ss : List Statement) (p : Program) → GoodProgram whole part ss → all_in_bounds (formulas_of ss) ≡ true → Each HasRoom ss → p.statements ≡ changing part ss → (other : ℕ) → ReadsBack whole part p other
+law_of {whole = whole} part ss p g f h e other =
+    read_back whole part p (good_as e (changing_good part ss g)) (ap (changing part) e ∙ (changing_again part ss ∙ sym e)) (ap all_in_bounds (ap formulas_of e ∙ changing_formulas part ss) ∙ f) (room_as e (room_kept part ss h)) other
 
 text_program : (n : Name) (xs : List Lexeme) (end : ℕ) (b : Bool) (ss : List Statement) → IsOutcome n xs end b (Ok (program ss)) → IsText grammar n xs (program ss)
 text_program n xs end b ss (IsOutcome.good d f c) = d
+
+unlimited : (n : Name) (xs : List Lexeme) (end : ℕ) (b : Bool) (ss : List Statement) → IsOutcome n xs end b (Ok (program ss)) → first_limit xs ≡ None
+unlimited n xs end b ss (IsOutcome.good d f c) = f
 
 from_lexemes : {n : Name} {xs ys : List Lexeme} {v : Value} → xs ≡ ys → IsText grammar n xs v → IsText grammar n ys v
 from_lexemes e d = rw e at d
@@ -190,7 +205,8 @@ from_lexemes e d = rw e at d
 pub law : (whole : Bool) (part : PartKind) (bytes : List ℕ) (file : ℕ) (p : Program) → IsReading whole part bytes file (Ok p) → (other : ℕ) → ReadsBack whole part p other
 law whole part bytes file p (IsReading.program {xs = xs} {end = end} {all = all} a o e) other =
     let d = from_lexemes a.are (text_program _ xs end _ all o) in
-    law_of part all p (statements_good part _ file a.tokens 0 end all a.reads.reads d) (accepted o) e other
+    let none = ap first_limit (sym a.are) ∙ unlimited _ xs end _ all o in
+    law_of part all p (statements_good part _ file a.tokens 0 end all (longest_front bytes) a.reads.reads d) (accepted o) (statements_room _ file a.tokens 0 end all (longest_front bytes) a.reads.reads d none) e other
 
 -- ---- the canonical text tells no places
 
@@ -235,3 +251,32 @@ same_lines (s ∷ ss) = ap (λ ps. ps ++ flat_map line_pieces (map unplaced ss))
 
 pub alike_texts : (p q : Program) → map unplaced p.statements ≡ map unplaced q.statements → canonical_text p ≡ canonical_text q
 alike_texts p q e = ap text_of (sym (same_lines p.statements) ∙ (ap (flat_map line_pieces) e ∙ same_lines q.statements))
+
+-- ---- what is read of a canonical text
+
+no_memory : (q : Program) → Ok q ≢ Err faults.Memory
+no_memory q e = cc
+
+same_read : (q : Program) (ss : List Statement) (r s : Result Program ParseFault) → r ≡ Ok q → s ≡ Ok (record { statements = ss }) → r ≡ s → q.statements ≡ ss
+same_read q ss r s e f h = cc
+
+pub same_again : (whole : Bool) (part : PartKind) (bytes : List ℕ) (file : ℕ) (p q : Program) → IsReading whole part bytes file (Ok p) → (other : ℕ) → IsReading whole part (canonical_text p) other (Ok q) → map unplaced q.statements ≡ map unplaced p.statements
+same_again whole part bytes file p q r other s =
+    let b = law whole part bytes file p r other in
+    let read : Program = record { statements = b.statements } in
+    ap (map unplaced) (same_read q b.statements (Ok q) (Ok read) refl refl (one_answer (Ok q) (Ok read) s b.is_read (no_memory q) (no_memory read))) ∙ b.same
+
+pub only_memory : (whole : Bool) (part : PartKind) (bytes : List ℕ) (file : ℕ) (p : Program) (f : ParseFault) → IsReading whole part bytes file (Ok p) → (other : ℕ) → IsReading whole part (canonical_text p) other (Err f) → f ≡ faults.Memory
+only_memory whole part bytes file p f r other s = by_fault f s
+  where
+    never : (g : ParseFault) (a : Result Program ParseFault) → a ≡ Err g → a ≢ Err faults.Memory → IsReading whole part (canonical_text p) other a → g ≡ faults.Memory
+    never g a k h t =
+        let b = law whole part bytes file p r other in
+        let read : Program = record { statements = b.statements } in
+        absurd (let e : a ≡ Ok read = one_answer a (Ok read) t b.is_read h (no_memory read) in cc)
+
+    by_fault : (g : ParseFault) → IsReading whole part (canonical_text p) other (Err g) → g ≡ faults.Memory
+    by_fault (faults.Syntax at) t = never (faults.Syntax at) (Err (faults.Syntax at)) refl (λ e. cc) t
+    by_fault (faults.Unsupported construct at) t = never (faults.Unsupported construct at) (Err (faults.Unsupported construct at)) refl (λ e. cc) t
+    by_fault (faults.Limit which at) t = never (faults.Limit which at) (Err (faults.Limit which at)) refl (λ e. cc) t
+    by_fault faults.Memory t = refl

@@ -5,9 +5,8 @@ use Rattle.std.specs.Fmt.{decimal}
 use Rattle.std.proofs.lemmas.List.{append-nil}
 use Rattle.grammar.specs.Form.{Derives}
 use Rattle.grammar.specs.Form.Form.{Tok, Call}
-use Rattle.ap_syntax.specs.declared.terms.Term.{Term, fold-roll-Term}
+use Rattle.ap_syntax.specs.declared.terms.Term.{Term}
 use Rattle.ap_syntax.specs.declared.terms.Term.TheVariants as terms
-use Rattle.ap_syntax.specs.declared.terms.Term.TheOpen.{Term-F}
 use Rattle.ap_syntax.specs.declared.rules.Rule.{Rule}
 use Rattle.ap_syntax.specs.declared.preferences.Element.{Element}
 use Rattle.ap_syntax.specs.declared.programs.PartKind.{PartKind}
@@ -15,7 +14,7 @@ use Rattle.ap_syntax.specs.declared.programs.PartKind.TheVariants as parts
 use Rattle.ap_syntax.specs.declared.programs.Statement.{Statement}
 use Rattle.ap_syntax.specs.declared.programs.Statement.TheVariants as statements
 use Rattle.ap_syntax.specs.Pieces.{in_braces, in_parentheses, semicolons, spaced, spaced_behind, spelled}
-use Rattle.ap_syntax.specs.CanonicalTerms.{at_least, quoted, term_pieces, term_step, written, Written}
+use Rattle.ap_syntax.specs.CanonicalTerms.{at_least, quoted, term_pieces, Written}
 use Rattle.ap_syntax.specs.CanonicalPreferences.{element_pieces, kind_pieces, preference_pieces}
 use Rattle.ap_syntax.specs.Canonical.{part_pieces, signature_pieces, statement_pieces}
 use Rattle.ap_lex.specs.declared.token.Kind.TheVariants.{Num, Str}
@@ -33,6 +32,7 @@ use Rattle.canonical_law.proofs.Signs as sign
 use Rattle.canonical_law.proofs.Names.{GoodName, name_kind, ident_derives, name_clear}
 use Rattle.canonical_law.proofs.Numbers.{GoodNumber}
 use Rattle.canonical_law.proofs.Strings.{good_string}
+use Rattle.canonical_law.proofs.WrittenTerms.{const_written, int_written, negative_written, str_written}
 use Rattle.canonical_law.proofs.Levels.{closing, parentheses_clear}
 use Rattle.canonical_law.proofs.Lists.{Each, Alike, GoodItem, collected-append, from_here}
 use Rattle.canonical_law.proofs.Braces.{braces_clear, braces_spelled}
@@ -55,18 +55,6 @@ pub data GoodConstant : Term → Type 0 where
   minus : {n : ℕ} → GoodNumber n → GoodConstant (terms.Minus (terms.Int (pos n)))
   name : {w : List ℕ} → GoodName w → GoodConstant (terms.Const w)
   string : {cs : List ℕ} → GoodConstant (terms.Str cs)
-
-int_written : (n : ℕ) → written (terms.Int (pos n)) ≡ record { level = 4; pieces = spelled (decimal n) }
-int_written n = ap written (sym (terms.rolls-Int (pos n))) ∙ fold-roll-Term Written term_step (Term-F.Int (pos n))
-
-minus_written : (n : ℕ) → written (terms.Minus (terms.Int (pos n))) ≡ record { level = 3; pieces = spelled (codes "-") ++ spelled (decimal n) }
-minus_written n = ap written (sym (terms.rolls-Minus (terms.Int (pos n)))) ∙ (fold-roll-Term Written term_step (Term-F.Minus (terms.Int (pos n))) ∙ ap (λ w. record { level = 3; pieces = spelled (codes "-") ++ at_least 4 w }) (int_written n))
-
-const_written : (w : List ℕ) → written (terms.Const w) ≡ record { level = 4; pieces = spelled w }
-const_written w = ap written (sym (terms.rolls-Const w)) ∙ fold-roll-Term Written term_step (Term-F.Const w)
-
-str_written : (cs : List ℕ) → written (terms.Str cs) ≡ record { level = 4; pieces = spelled (quoted cs) }
-str_written cs = ap written (sym (terms.rolls-Str cs)) ∙ fold-roll-Term Written term_step (Term-F.Str cs)
 
 record IsConstant (x : Term) (xs ys : List Lexeme) : Type 0 where
   first : Lexeme
@@ -104,7 +92,7 @@ spells_as e s = rw e at s
 
 constant_spelled : {x : Term} {xs ys : List Lexeme} → GoodConstant x → Spells (term_pieces x) xs ys → IsConstant x xs ys
 constant_spelled (GoodConstant.number {n = n} h) s = number_spelled h (spells_as (int_written n) s)
-constant_spelled (GoodConstant.minus {n = n} h) s = minus_spelled h (spells_as (minus_written n) s)
+constant_spelled (GoodConstant.minus {n = n} h) s = minus_spelled h (spells_as (negative_written n) s)
 constant_spelled (GoodConstant.name {w = w} h) s = name_spelled h (spells_as (const_written w) s)
 constant_spelled (GoodConstant.string {cs = cs}) s = string_spelled (spells_as (str_written cs) s)
 
@@ -113,7 +101,7 @@ clear_as e c = rw (sym e) at c
 
 constant_clear : {x : Term} (rest : List ℕ) → GoodConstant x → Ends rest → Clear (term_pieces x) rest
 constant_clear rest (GoodConstant.number {n = n} h) e = clear_as (int_written n) (Clear.word h.one (h.apart rest e) Clear.nothing)
-constant_clear rest (GoodConstant.minus {n = n} h) e = clear_as (minus_written n) (Clear.word sign.minus_one (sign.minus_apart _) (Clear.word h.one (h.apart rest e) Clear.nothing))
+constant_clear rest (GoodConstant.minus {n = n} h) e = clear_as (negative_written n) (Clear.word sign.minus_one (sign.minus_apart _) (Clear.word h.one (h.apart rest e) Clear.nothing))
 constant_clear rest (GoodConstant.name {w = w} h) e = clear_as (const_written w) (name_clear rest h e)
 constant_clear rest (GoodConstant.string {cs = cs}) e = let h = good_string cs in clear_as (str_written cs) (Clear.word h.one (h.apart rest) Clear.nothing)
 

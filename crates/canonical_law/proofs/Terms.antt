@@ -1,6 +1,8 @@
 -- Terms read back.
-use Rattle.std.proofs.Common.{◌≡◌, ℕ, pos, List, [], ◌∷◌, ◌++◌, map, Option, Some, None, refl, sym, ap, subst, ◌∙◌}
+use Rattle.std.proofs.Common.{◌≡◌, ℕ, pos, true, List, [], ◌∷◌, ◌++◌, map, Option, Some, None, refl, sym, ap, subst, ◌∙◌}
 use Rattle.std.specs.Prelude.{codes}
+use Rattle.std.specs.List.{list_all}
+use Rattle.ap_lex.specs.Bytes.{is_word_byte}
 use Rattle.std.proofs.lemmas.List.{append-nil}
 use Rattle.grammar.specs.Form.{Derives, ◌⨾◌, ◌∣◌}
 use Rattle.grammar.specs.Form.Form.{Tok, Call}
@@ -65,6 +67,7 @@ good_str cs = let g = good_string cs in subst (λ w. Good w (terms.Str cs)) (sym
 -- the name of a variable
 pub record GoodVariable (w : List ℕ) : Type 0 where
   pub one : IsOneToken w Var
+  pub passes : list_all is_word_byte w ≡ true
   pub apart : (rest : List ℕ) → Ends rest → Apart w rest
 
 pub good_var : (name : List ℕ) → GoodVariable name → GoodTerm (terms.Var name)
@@ -75,7 +78,7 @@ good_var name g = subst (λ w. Good w (terms.Var name)) (sym (ap written (sym (t
   clear = λ rest h. Clear.word g.one (g.apart rest h) Clear.nothing;
 })
 
-any_one : IsOneToken (codes "_") Any
+pub any_one : IsOneToken (codes "_") Any
 unfolding token_at word_at word_kind
 any_one = refl
 

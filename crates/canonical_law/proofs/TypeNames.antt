@@ -32,7 +32,7 @@ no_paren (b ∷ bs) h = let p = and_parts (is_word_byte b) (list_all is_word_byt
     other : (b : ℕ) → is_word_byte b ≡ true → not (eqb b 40) ≡ true
     other b h = grind (arith, nat_tests)
 
-plain_pieces : (w : List ℕ) → list_all is_word_byte w ≡ true → kind_pieces w ≡ spelled w
+pub plain_pieces : (w : List ℕ) → list_all is_word_byte w ≡ true → kind_pieces w ≡ spelled w
 plain_pieces w h =
     let p = no_paren w h in
     let a = take_front (λ b. not (eqb b 40)) w [] p refl in
@@ -46,7 +46,7 @@ inner_of v =
     let b = drop_at v (41 ∷ []) (length (v ++ 41 ∷ []) - 1) (sym n) in
     rw (a, b) refl
 
-nested_pieces : (w v : List ℕ) → list_all is_word_byte w ≡ true → kind_pieces (w ++ (40 ∷ (v ++ 41 ∷ []))) ≡ Spelled w ∷ Spelled (40 ∷ []) ∷ Spelled v ∷ Spelled (41 ∷ []) ∷ []
+pub nested_pieces : (w v : List ℕ) → list_all is_word_byte w ≡ true → kind_pieces (w ++ (40 ∷ (v ++ 41 ∷ []))) ≡ Spelled w ∷ Spelled (40 ∷ []) ∷ Spelled v ∷ Spelled (41 ∷ []) ∷ []
 nested_pieces w v h =
     let p = no_paren w h in
     let a = take_front (λ b. not (eqb b 40)) w (40 ∷ (v ++ 41 ∷ [])) p refl in

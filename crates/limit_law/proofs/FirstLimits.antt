@@ -33,11 +33,11 @@ quiet_first : (s : Levels) (i : ℕ) (xs : List Lexeme) → Quiet s xs → Other
 quiet_first s i [] q = tt
 quiet_first s i (x ∷ xs) q = other_or (limit_at s (role_of x.terminal) (next_role xs)) i _ (q.0 (next_role xs)) (quiet_first (after s (role_of x.terminal)) (i + 1) xs q.1)
 
-none_first : (o : Option Limit) (i : ℕ) (later : Option LimitAt) → limit_or o i later ≡ None → o ≡ None
+pub none_first : (o : Option Limit) (i : ℕ) (later : Option LimitAt) → limit_or o i later ≡ None → o ≡ None
 none_first None i later e = refl
 none_first (Some l) i later e = cc
 
-none_later : (o : Option Limit) (i : ℕ) (later : Option LimitAt) → limit_or o i later ≡ None → later ≡ None
+pub none_later : (o : Option Limit) (i : ℕ) (later : Option LimitAt) → limit_or o i later ≡ None → later ≡ None
 none_later None i later e = e
 none_later (Some l) i later e = cc
 

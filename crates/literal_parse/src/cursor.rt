@@ -76,7 +76,7 @@ impl<'a> Cursor<'a> {
         }
     }
 
-    /// The kind of the next token.
+    /// The kind of the next token, and nothing where none is left.
     pub fn peek(&self) -> Option<Terminal>
         ensures { result ≡ next_kind factored self.now }
     {
@@ -86,14 +86,14 @@ impl<'a> Cursor<'a> {
         }
     }
 
-    /// Goes on behind the next token, if there is one.
+    /// Goes on behind the next token. Where none is left it stays there.
     pub fn advance(&mut self)
         ensures { self.new ≡ behind self.old }
     {
         *self = Cursor::new(self.rest.rest());
     }
 
-    /// Whether a token of this kind comes next.
+    /// Whether a token of this kind comes next. No token is read.
     pub fn sees(&self, wanted: Terminal) -> bool
         ensures { Tells (Tok wanted) self.now result }
     {
@@ -118,7 +118,8 @@ impl<'a> Cursor<'a> {
         }
     }
 
-    /// Reads a token of this kind, if one comes next, and answers its characters.
+    /// Reads a token of this kind, if one comes next, and answers its characters. Where none does it answers nothing,
+    /// and no token is read.
     pub fn take(&mut self, wanted: Terminal) -> Option<&'a str>
         ensures { Spells wanted self.old self.new result }
     {
@@ -128,7 +129,7 @@ impl<'a> Cursor<'a> {
         }
     }
 
-    /// Reads a number, if one comes next.
+    /// Reads a number, if one comes next. Where none does it answers nothing, and no token is read.
     pub fn number(&mut self) -> Option<u32>
         ensures { Numbers self.old self.new result }
     {
@@ -138,7 +139,8 @@ impl<'a> Cursor<'a> {
         }
     }
 
-    /// Reads a string, if one comes next, and answers its characters with the quotes.
+    /// Reads a string, if one comes next, and answers its characters with the quotes. Where none does it answers
+    /// nothing, and no token is read.
     pub fn quoted(&mut self) -> Option<&'a str>
         ensures { Quotes self.old self.new result }
     {
@@ -148,7 +150,7 @@ impl<'a> Cursor<'a> {
         }
     }
 
-    /// Reads a token of this kind, if one comes next.
+    /// Reads a token of this kind, if one comes next, and tells whether one did. Where none does no token is read.
     pub fn eat(&mut self, wanted: Terminal) -> bool
         ensures { Eats wanted self.old self.new result }
     {

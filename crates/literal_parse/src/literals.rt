@@ -33,7 +33,8 @@ fn rel_of(terminal: Terminal) -> Option<Rel>
     }
 }
 
-/// Reads the sign of a relation, if one comes next.
+/// Reads the sign of a relation, if one comes next; `==` is `=`. Where none does it answers nothing, and no token is
+/// read.
 pub fn relation(tokens: &mut Cursor<'_>) -> Option<Rel>
     ensures { Relations tokens.old tokens.new result }
 {

@@ -9,8 +9,8 @@ use ap_syntax::Text;
 use std::alloc::{AllocError, Global};
 use std::str::Chars;
 
-/// The characters of a string, which begins and ends with a quote, each escape by the character that it stands for. It fails
-/// for want of memory alone.
+/// The characters of a string between its quotes, each escape by the character that it stands for. `quoted` has to
+/// begin with a quote. It fails for want of memory alone.
 pub fn string(alloc: Global, quoted: &str) -> Result<Text, AllocError>
     requires { BeginsWithQuote quoted.now }
     ensures { IfOk result (λ text. text ≡ string_of quoted.now) }

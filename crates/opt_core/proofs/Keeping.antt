@@ -17,7 +17,7 @@ use Rattle.opt_core.specs.declared.events.Passed.{Passed}
 use Rattle.opt_core.specs.Numbers.{next_number, IsNewSet}
 use Rattle.opt_core.specs.States.{CoreView, at_chain, begin, is_among, with_closed, with_new, with_printed}
 use Rattle.opt_core.specs.Folds.{after, after_all, after_better, bettered, stopped}
-use Rattle.opt_core.specs.Optima.{IsUnbeaten}
+use Rattle.opt_core.specs.Optima.{IsUnbeaten, ListsAnswer}
 use Rattle.opt_core.specs.Permitted.{ArePermitted, HoldsOf, IsBeatenBy, IsPassedBy, IsPermitted}
 use Rattle.opt_core.proofs.ChainLemmas.{at_other, at_same, at_within, none_open}
 use Rattle.opt_core.proofs.MetLemmas.{by_number, is_some_at, not_yet, numbered_last, numbered_new, numbered_on, older, some_on, some_there}
@@ -94,7 +94,7 @@ module _ (IsAnswer : (ℕ → Bool) → Type 0) (IsPreferred : (ℕ → Bool) �
       (Contains-push_cases s.passed (record { set = i; by = j }) (record { set = k; by = l }) member)
 
   -- A chain takes a new set; its number before, if there was one, is among the passed ones.
-  takes : (s : CoreView) (c : ℕ) (x : List AtomId) (passed : List Passed) → Holds s → s.ended ≡ false → c < length s.chains → IsNewSet s.met x → IsAnswer (has x)
+  takes : (s : CoreView) (c : ℕ) (x : List AtomId) (passed : List Passed) → Holds s → s.ended ≡ false → c < length s.chains → IsNewSet s.met x → ListsAnswer IsAnswer x
       → ((k l : SetId) → Contains s.passed (record { set = k; by = l }) → Contains passed (record { set = k; by = l }))
       → ((k l : SetId) → Contains passed (record { set = k; by = l }) → Contains s.passed (record { set = k; by = l }) ⊎ (at_chain s.chains c ≡ Some k))
       → ((k : SetId) → at_chain s.chains c ≡ Some k → (l : SetId) × Contains passed (record { set = k; by = l }))
@@ -103,7 +103,7 @@ module _ (IsAnswer : (ℕ → Bool) → Type 0) (IsPreferred : (ℕ → Bool) �
   takes s c x passed h going within new answer kept source left by = record {
     answers = λ i y e. ⊎_elim
         (λ (old : numbered s.met i.0 ≡ Some y). h.answers i y old)
-        (λ (last : (i.0 ≡ suc (length s.met)) × (x ≡ y)). subst (λ z. IsAnswer (has z)) last.1 answer)
+        (λ (last : (i.0 ≡ suc (length s.met)) × (x ≡ y)). subst (λ z. ListsAnswer IsAnswer z) last.1 answer)
         (numbered_last s.met x i.0 y e);
     met_once = pairs_last (λ (a b : List AtomId). a ≢ b) s.met x h.met_once new;
     settled = λ i there.

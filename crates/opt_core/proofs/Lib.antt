@@ -3,3 +3,4 @@ pub mod MetLemmas
 pub mod StateLemmas
 pub mod Keeping
 pub mod Listing
+pub mod SetLemmas

@@ -1,6 +1,6 @@
 -- What is printed after permitted events.
 use Rattle.std.proofs.Common.{◌≡◌, ◌≢◌, ℕ, zero, suc, Bool, true, List, [], ◌∷◌, refl, sym, ap, ◌∙◌, subst, Option, Some, None, ⊎_elim, inl, inr, arith, eqb-true, eq-eqb}
-use Rattle.std.specs.Prelude.{◌⊎◌, ◌==◌, All}
+use Rattle.std.specs.Prelude.{◌⊎◌, ◌==◌, All, get_or}
 use Rattle.std.specs.List.{AllPairs, Contains, cons_option, filter_map}
 use Rattle.std.proofs.lemmas.Bool.{false≢true, or_cases, or_left, or_right}
 use Rattle.std.proofs.lemmas.List.Elements.{All-cons, All-nil}
@@ -9,11 +9,12 @@ use Rattle.std.proofs.lemmas.Option.{none-some, same_Some}
 use Rattle.ground_form.specs.declared.atoms.AtomId.{AtomId}
 use Rattle.ground_form.specs.declared.atoms.SetId.{SetId}
 use Rattle.ground_form.specs.Programs.{numbered}
-use Rattle.ground_form.specs.Sets.{has}
+use Rattle.ground_form.specs.Sets.{IsAscending, has}
 use Rattle.opt_core.specs.States.{CoreView, at_chain, is_among, printed_sets}
 use Rattle.opt_core.specs.Optima.{AreOptimal, IsListing, IsOptimal}
 use Rattle.opt_core.specs.Permitted.{HoldsOf, IsPassedBy}
 use Rattle.opt_core.proofs.MetLemmas.{is_some_at, one_number}
+use Rattle.opt_core.proofs.SetLemmas.{one_list, pairs_head, pairs_tail}
 
 -- ---- one of the members, by recursion
 
@@ -32,12 +33,6 @@ all_from_in P (x ∷ xs) h = All-cons P x xs (h x (inl refl)) (all_from_in P xs 
 
 from_all : {X : Type 0} (P : X → Type 0) (xs : List X) → All P xs → (x : X) → In x xs → P x
 from_all P xs h x i = let c = contains_from_in x xs i in subst P c.2 (h c.0 x c.1)
-
-pairs_head : {X : Type 0} (R : X → X → Type 0) (x : X) (xs : List X) → AllPairs R (x ∷ xs) → All (R x) xs
-pairs_head R x xs apart k d lt = apart 0 (suc k) d (omega arith) (omega (arith, lt))
-
-pairs_tail : {X : Type 0} (R : X → X → Type 0) (x : X) (xs : List X) → AllPairs R (x ∷ xs) → AllPairs R xs
-pairs_tail R x xs apart i j d lt within = apart (suc i) (suc j) d (omega (arith, lt)) (omega (arith, within))
 
 in_filter_map : {A B : Type 0} (h : A → Option B) (y : B) (xs : List A) → In y (filter_map h xs) → (x : A) × In x xs × (h x ≡ Some y)
 in_filter_map h y [] i = absurd i
@@ -92,9 +87,16 @@ module _ (IsAnswer : (ℕ → Bool) → Type 0) (IsPreferred : (ℕ → Bool) �
   printed_optimal s h = record {
     optimal = all_from_in (λ set. IsOptimal IsAnswer IsPreferred (has set)) (printed_sets s) (λ set member.
         let from = in_filter_map (λ (k : SetId). numbered s.met k.0) set s.printed member in
-        record { answer = h.answers from.0 set from.2; unbeaten = h.unbeaten from.0 set (in_among s.printed from.0 from.1) from.2 });
-    once = sets_once s.met s.printed h.met_once h.printed_once;
+        record { answer = (h.answers from.0 set from.2).1; unbeaten = h.unbeaten from.0 set (in_among s.printed from.0 from.1) from.2 });
+    once = λ i j d lt within same.
+        sets_once s.met s.printed h.met_once h.printed_once i j d lt within
+        (one_list (get_or (printed_sets s) i d) (get_or (printed_sets s) j d) (ascend i d (omega (arith, lt, within))) (ascend j d within) same);
   }
+    where
+      ascend : All IsAscending (printed_sets s)
+      ascend = all_from_in IsAscending (printed_sets s) (λ set member.
+          let from = in_filter_map (λ (k : SetId). numbered s.met k.0) set s.printed member in
+          (h.answers from.0 set from.2).0)
 
   pub printed_listing : (s : CoreView) → HoldsOf IsAnswer IsPreferred s → s.ended ≡ true → IsListing IsAnswer IsPreferred (printed_sets s)
   printed_listing s h ended = record {
@@ -107,9 +109,9 @@ module _ (IsAnswer : (ℕ → Bool) → Type 0) (IsPreferred : (ℕ → Bool) �
         (λ (p : (j : SetId) × IsPassedBy s some.0 j).
         let b = h.passed_by some.0 p.0 p.1 in
         let at : b.0 ≡ some.1 = same_Some b.0 some.1 (sym b.2 ∙ some.2) in
-        o.unbeaten (has b.1) (h.answers p.0 b.1 b.3) (subst (IsPreferred (has b.1)) (ap has at ∙ same) b.4))
+        o.unbeaten (has b.1) (h.answers p.0 b.1 b.3).1 (subst (IsPreferred (has b.1)) (ap has at ∙ same) b.4))
         (λ (c : (c : ℕ) × (at_chain s.chains c ≡ Some some.0)). none-some some.0 (sym ((h.ended ended).0 c.0) ∙ c.1)) r))
         (h.settled some.0 (is_some_at (numbered s.met some.0.0) some.1 some.2)))
-        (λ (beats : IsPreferred (has some.1) x). absurd (o.unbeaten (has some.1) (h.answers some.0 some.1 some.2) beats))
+        (λ (beats : IsPreferred (has some.1) x). absurd (o.unbeaten (has some.1) (h.answers some.0 some.1 some.2).1 beats))
         some.3;
   }

@@ -2,7 +2,11 @@
 use Rattle.std.specs.Prelude.{◌≡◌, ◌≢◌, ℕ, Bool, List, All}
 use Rattle.std.specs.List.{AllPairs, Contains}
 use Rattle.ground_form.specs.declared.atoms.AtomId.{AtomId}
-use Rattle.ground_form.specs.Sets.{has}
+use Rattle.ground_form.specs.Sets.{IsAscending, has}
+
+-- the list of one of the sets: its members, in ascending order
+abbrev pub ListsAnswer : ((ℕ → Bool) → Type 0) → List AtomId → Type 0
+ListsAnswer IsAnswer set = IsAscending set × IsAnswer (has set)
 
 -- which sets there are, and whether the first of two sets is preferred to the second
 module _ (IsAnswer : (ℕ → Bool) → Type 0) (IsPreferred : (ℕ → Bool) → (ℕ → Bool) → Type 0) where
@@ -18,7 +22,7 @@ module _ (IsAnswer : (ℕ → Bool) → Type 0) (IsPreferred : (ℕ → Bool) �
   -- some of these, each once
   pub record AreOptimal (sets : List (List AtomId)) : Type 0 where
     pub optimal : All (λ set. IsOptimal (has set)) sets
-    pub once : AllPairs (λ x y. x ≢ y) sets
+    pub once : AllPairs (λ x y. has x ≢ has y) sets
 
   -- exactly these, each once
   pub record IsListing (sets : List (List AtomId)) : Type 0 where

@@ -9,7 +9,7 @@ use Rattle.opt_core.specs.declared.events.Event.{Event}
 use Rattle.opt_core.specs.declared.events.Event.TheVariants.{Start, Better, Stuck, Dry}
 use Rattle.opt_core.specs.States.{CoreView, at_chain, is_among}
 use Rattle.opt_core.specs.Folds.{May, after}
-use Rattle.opt_core.specs.Optima.{IsUnbeaten}
+use Rattle.opt_core.specs.Optima.{IsUnbeaten, ListsAnswer}
 
 -- of the set of a chain
 abbrev pub OfChain : CoreView → ℕ → (List AtomId → Type 0) → Type 0
@@ -32,8 +32,8 @@ module _ (IsAnswer : (ℕ → Bool) → Type 0) (IsPreferred : (ℕ → Bool) �
 
   -- what an event says of the sets
   abbrev pub IsTruth : CoreView → Event → Type 0
-  IsTruth s (Start c x) = IsAnswer (has x)
-  IsTruth s (Better c x) = IsAnswer (has x) × OfChain s c (λ old. IsPreferred (has x) (has old))
+  IsTruth s (Start c x) = ListsAnswer IsAnswer x
+  IsTruth s (Better c x) = ListsAnswer IsAnswer x × OfChain s c (λ old. IsPreferred (has x) (has old))
   IsTruth s (Stuck c) = OfChain s c (λ old. IsUnbeaten IsAnswer IsPreferred (has old))
   IsTruth s Dry = IsExhausted s.met
 
@@ -57,7 +57,7 @@ module _ (IsAnswer : (ℕ → Bool) → Type 0) (IsPreferred : (ℕ → Bool) �
   -- open chain is met, it is neither printed nor passed, and no other chain has it. Where the search has ended, every
   -- chain is closed, and each of the sets was met or has a preferred one that was met.
   pub record HoldsOf (s : CoreView) : Type 0 where
-    pub answers : (i : SetId) (x : List AtomId) → numbered s.met i.0 ≡ Some x → IsAnswer (has x)
+    pub answers : (i : SetId) (x : List AtomId) → numbered s.met i.0 ≡ Some x → ListsAnswer IsAnswer x
     pub met_once : AllPairs (λ x y. x ≢ y) s.met
     pub settled : (i : SetId) → IsSome (numbered s.met i.0) →
         (is_among s.printed i ≡ true) ⊎ (((j : SetId) × IsPassedBy s i j) ⊎ ((c : ℕ) × (at_chain s.chains c ≡ Some i)))

@@ -99,9 +99,12 @@ impl Core {
         }
     }
 
-    /// Applies an event. `Start` answers `Nothing`. `Better` marks the chain's set as passed by the new one; it
-    /// answers `Closed` where the new set was met before, and the chain is closed, and else `Nothing`. `Stuck` closes
-    /// the chain, and answers `Print` where the set was not printed before, and else `Closed`. `Dry` answers `End`.
+    /// Applies an event. It has to be one that may be applied: `may` tells. Nothing is asked of the truth of what it
+    /// says of the sets.
+    ///
+    /// `Start` answers `Nothing`. `Better` marks the chain's set as passed by the new one; it answers `Closed` where
+    /// the new set was met before, and the chain is closed, and else `Nothing`. `Stuck` closes the chain, and answers
+    /// `Print` where the set was not printed before, and else `Closed`. `Dry` answers `End`.
     ///
     /// Its one error is want of memory, and leaves the state as it was.
     pub fn apply(&mut self, event: &Event) -> Result<Output, AllocError>

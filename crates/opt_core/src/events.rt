@@ -31,6 +31,8 @@ pub enum Output {
 /// A set that was passed, and the set that passed it: the second is preferred to the first.
 #[derive(Clone, Copy, Debug, PartialEq, Eq)]
 pub struct Passed {
+    /// The number of the set that was passed.
     pub set: SetId,
+    /// The number of the set that passed it.
     pub by: SetId,
 }

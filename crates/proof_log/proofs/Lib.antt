@@ -1,7 +1,11 @@
+pub mod AddedLemmas
 pub mod CauseLemmas
 pub mod ClauseLemmas
 pub mod ConditionLemmas
 pub mod HintLemmas
+pub mod LogLemmas
 pub mod ProgramLemmas
+pub mod StayLemmas
+pub mod StepLemmas
 pub mod TableLemmas
 pub mod TruthLemmas

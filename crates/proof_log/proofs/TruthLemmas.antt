@@ -16,7 +16,7 @@ use Rattle.agg_nogoods.proofs.RuleLemmas.{implied_holds}
 use Rattle.proof_log.specs.States.{StateView, AddedAreTrue, added_of, clause_in, either, entry_of, put, taken, with_clause, without_clause}
 use Rattle.proof_log.specs.Valid.{IsSumClause}
 
-abbrev Slots : Type 0
+abbrev pub Slots : Type 0
 Slots = List (Option (List Lit))
 
 -- ---- entries of a list by number
@@ -34,12 +34,15 @@ entry_at slots id c h = ap (option_and_then (λ (slot : Option (List Lit)). slot
 entry_more : (slots more : Slots) (id : ℕ) (c : List Lit) → entry_of slots id ≡ Some c → entry_of (slots ++ more) id ≡ Some c
 entry_more slots more id c h = entry_at (slots ++ more) id c (at_number-more slots more id (Some c) (at_entry slots id c h))
 
-get_set : (slots : Slots) (place k : ℕ) (slot : Option (List Lit)) (c : List Lit) → slice_get (set slots place slot) k ≡ Some (Some c) → (slot ≡ Some c) ⊎ (slice_get slots k ≡ Some (Some c))
+get_set : (slots : Slots) (place k : ℕ) (slot : Option (List Lit)) (c : List Lit) → slice_get (set slots place slot) k ≡ Some (Some c) → ((k ≡ place) × (slot ≡ Some c)) ⊎ (slice_get slots k ≡ Some (Some c))
 get_set [] place k slot c h = inr h
-get_set (x ∷ slots) zero zero slot c h = inl (same_Some slot (Some c) h)
+get_set (x ∷ slots) zero zero slot c h = inl (refl, same_Some slot (Some c) h)
 get_set (x ∷ slots) zero (suc k) slot c h = inr h
 get_set (x ∷ slots) (suc place) zero slot c h = inr h
-get_set (x ∷ slots) (suc place) (suc k) slot c h = get_set slots place k slot c h
+get_set (x ∷ slots) (suc place) (suc k) slot c h = elim (get_set slots place k slot c h) [
+  | inl own ↦ inl (ap suc own.0, own.1)
+  | inr old ↦ inr old
+]
 
 get_nothing : (n k : ℕ) (c : List Lit) → slice_get (replicate n None) k ≡ Some (Some c) → ⊥
 get_nothing zero k c h = none-some (Some c) h
@@ -51,20 +54,20 @@ get_grown [] n k c h = absurd (get_nothing n k c h)
 get_grown (x ∷ slots) n zero c h = h
 get_grown (x ∷ slots) n (suc k) c h = get_grown slots n k c h
 
-entry_put : (slots : Slots) (place : ℕ) (c : List Lit) (id : ℕ) (d : List Lit) → entry_of (put slots place c) id ≡ Some d → (c ≡ d) ⊎ (entry_of slots id ≡ Some d)
+pub entry_put : (slots : Slots) (place : ℕ) (c : List Lit) (id : ℕ) (d : List Lit) → entry_of (put slots place c) id ≡ Some d → ((id ≡ suc place) × (c ≡ d)) ⊎ (entry_of slots id ≡ Some d)
 entry_put slots place c zero d h = absurd (none-some d h)
-entry_put slots place c (suc k) d h = ⊎_elim
-    (λ (new : Some c ≡ Some d). inl (same_Some c d new))
-    (λ (old : slice_get (grown slots (place + 1) None) k ≡ Some (Some d)). inr (entry_at slots (suc k) d (get_grown slots _ k d old)))
-    (get_set (grown slots (place + 1) None) place k (Some c) d (at_entry (put slots place c) (suc k) d h))
+entry_put slots place c (suc k) d h = elim (get_set (grown slots (place + 1) None) place k (Some c) d (at_entry (put slots place c) (suc k) d h)) [
+  | inl new ↦ inl (ap suc new.0, same_Some c d new.1)
+  | inr old ↦ inr (entry_at slots (suc k) d (get_grown slots _ k d old))
+]
 
-entry_taken : (slots : Slots) (taken_id id : ℕ) (d : List Lit) → entry_of (taken slots taken_id) id ≡ Some d → entry_of slots id ≡ Some d
+pub entry_taken : (slots : Slots) (taken_id id : ℕ) (d : List Lit) → entry_of (taken slots taken_id) id ≡ Some d → entry_of slots id ≡ Some d
 entry_taken slots zero id d h = h
 entry_taken slots (suc place) zero d h = h
-entry_taken slots (suc place) (suc k) d h = ⊎_elim
-    (λ (none : None ≡ Some d). absurd (none-some d none))
-    (λ (old : slice_get slots k ≡ Some (Some d)). entry_at slots (suc k) d old)
-    (get_set slots place k None d (at_entry (set slots place None) (suc k) d h))
+entry_taken slots (suc place) (suc k) d h = elim (get_set slots place k None d (at_entry (set slots place None) (suc k) d h)) [
+  | inl none ↦ absurd (none-some d none.1)
+  | inr old ↦ entry_at slots (suc k) d old
+]
 
 -- ---- models
 
@@ -84,14 +87,14 @@ pub with_true : (s after : StateView) (c : List Lit) → AddedAreTrue s → IsTr
 with_true s after c h here is = subst AddedAreTrue (sym is) (λ f m id d entry.
     let before = model_before s c f m in
     ⊎_elim
-    (λ (same : c ≡ d). subst (λ (x : List Lit). IsTrue (clause_true f x)) same (here f before))
+    (λ (own : (id ≡ suc (length s.theory.clauses)) × (c ≡ d)). subst (λ (x : List Lit). IsTrue (clause_true f x)) own.1 (here f before))
     (λ (old : entry_of s.added id ≡ Some d). h f before id d old)
     (entry_put s.added (length s.theory.clauses) c id d entry))
 
 pub without_true : (s after : StateView) (id : ℕ) → AddedAreTrue s → after ≡ without_clause s id → AddedAreTrue after
 without_true s after id h is = subst AddedAreTrue (sym is) (λ f m k d entry. h f m k d (entry_taken s.added id k d entry))
 
-true_of_either : (f : ℕ → Bool) (o p : Option (List Lit)) (d : List Lit) → ((c : List Lit) → o ≡ Some c → IsTrue (clause_true f c)) → ((c : List Lit) → p ≡ Some c → IsTrue (clause_true f c)) → either o p ≡ Some d → IsTrue (clause_true f d)
+pub true_of_either : (f : ℕ → Bool) (o p : Option (List Lit)) (d : List Lit) → ((c : List Lit) → o ≡ Some c → IsTrue (clause_true f c)) → ((c : List Lit) → p ≡ Some c → IsTrue (clause_true f c)) → either o p ≡ Some d → IsTrue (clause_true f d)
 true_of_either f None p d first second h = second d h
 true_of_either f (Some c) p d first second h = first d h
 

@@ -1,5 +1,5 @@
--- What is a condition of every call that takes a step of a log.
-use Rattle.std.specs.Prelude.{◌<◌, List}
+-- What a contract sees of a log, and what is a condition of every call that takes a step of one.
+use Rattle.std.specs.Prelude.{ℕ, ◌+◌, ◌<◌, ◌≤◌, List, length}
 use Rattle.std.specs.List.{All}
 use Rattle.ground_form.specs.declared.atoms.AtomId.{AtomId}
 use Rattle.ground_form.specs.Sets.{IsAscending as AtomsAscend}
@@ -55,3 +55,15 @@ IsJudged (Sum guard lits) = Unit {0}
 IsJudged (Erase clause) = Unit {0}
 IsJudged (Optimal set clause) = ⊥
 IsJudged (Closed clause) = ⊥
+
+-- ---- logs
+
+-- its steps, the oldest first, and for how many more there is room
+pub record LogView : Type 0 where
+  pub steps : List Step
+  pub room : ℕ
+
+-- what is true of every log: its steps are as those of calls, and there is the room
+pub record HoldsLog (steps : List Step) (room capacity : ℕ) : Type 0 where
+  pub are_steps : All IsStep steps
+  pub within : length steps + room ≤ capacity

@@ -2,11 +2,13 @@
 ghost use Rattle.std.specs.Prelude.{◌≡◌, ◌↔◌, ◌+◌, ◌<◌, ◌≤◌, ℕ, Bool, List, Option, None, length, IsTrue, IfSome};
 ghost use Rattle.theory_form.specs.Hints.{Follows, FollowsByHints, all_false, made_true};
 ghost use Rattle.theory_form.specs.Truth.{value_of};
+ghost use Rattle.proof_log.specs.Added.{slots_of};
 ghost use Rattle.proof_log.specs.States.{clause_among};
 ghost use Rattle.proof_log.specs.Working.{AreFree, AreOver, AreSame, Frees, HasValuesIn, HintsAreFree, HintsAreOver, IsHint, LitsAreFree};
 
+use crate::added::Added;
 use crate::clauses::clause_among;
-use theory_form::{Assignment, Clause, ClauseId, Lit, Sight, Theory, Var, look};
+use theory_form::{Assignment, ClauseId, Lit, Sight, Theory, Var, look};
 
 // What the clause of a hint is under an assignment: it is false; or all its literals but one are false, and that one has
 // no value; or neither.
@@ -18,8 +20,8 @@ pub enum Hint {
 }
 
 // What this hint is.
-fn hint_at(theory: &Theory, added: &[Option<Clause>], values: &Assignment, id: ClauseId) -> Hint
-    ensures { IsHint (clause_among theory.now added.now) values.now id.0 result }
+fn hint_at(theory: &Theory, added: &Added, values: &Assignment, id: ClauseId) -> Hint
+    ensures { IsHint (clause_among theory.now (slots_of added.now)) values.now id.0 result }
 {
     match clause_among(theory, added, id) {
         Some(clause) => {
@@ -63,15 +65,15 @@ fn make_false(values: &mut Assignment, vars: u64, lits: &[Lit])
 // Whether the hints, taken in order, end in a false clause: each but the last forces a literal, which is made true.
 fn follows(
     theory: &Theory,
-    added: &[Option<Clause>],
+    added: &Added,
     values: &mut Assignment,
     vars: u64,
     hints: &[ClauseId],
 ) -> bool
     requires { vars < length values.old }
     ensures size { length values.new ≡ length values.old }
-    ensures exact { (a : List (Option Bool)) → length a ≡ vars + 1 → AreSame values.old a → IsTrue result ↔ Follows (clause_among theory.now added.now) a hints.now }
-    ensures within { (set : ℕ → Bool) → HintsAreOver set (clause_among theory.now added.now) hints.now → HasValuesIn set values.old → HasValuesIn set values.new }
+    ensures exact { (a : List (Option Bool)) → length a ≡ vars + 1 → AreSame values.old a → IsTrue result ↔ Follows (clause_among theory.now (slots_of added.now)) a hints.now }
+    ensures within { (set : ℕ → Bool) → HintsAreOver set (clause_among theory.now (slots_of added.now)) hints.now → HasValuesIn set values.old → HasValuesIn set values.new }
 {
     for (i, id) in hints.iter().enumerate() {
         let last = i + 1 == hints.len();
@@ -110,9 +112,9 @@ fn free_lits(values: &mut Assignment, lits: &[Lit])
 }
 
 // The same for the variables of the clause of a number.
-fn free_hint(theory: &Theory, added: &[Option<Clause>], values: &mut Assignment, id: ClauseId)
+fn free_hint(theory: &Theory, added: &Added, values: &mut Assignment, id: ClauseId)
     ensures frees { Frees values.old values.new }
-    ensures free { IfSome (clause_among theory.now added.now id.0) (LitsAreFree values.new) }
+    ensures free { IfSome (clause_among theory.now (slots_of added.now) id.0) (LitsAreFree values.new) }
 {
     if let Some(clause) = clause_among(theory, added, id) {
         free_lits(values, clause.lits());
@@ -120,14 +122,9 @@ fn free_hint(theory: &Theory, added: &[Option<Clause>], values: &mut Assignment,
 }
 
 // The same for the variables of the clauses of the hints.
-fn free_hints(
-    theory: &Theory,
-    added: &[Option<Clause>],
-    values: &mut Assignment,
-    hints: &[ClauseId],
-)
+fn free_hints(theory: &Theory, added: &Added, values: &mut Assignment, hints: &[ClauseId])
     ensures frees { Frees values.old values.new }
-    ensures free { HintsAreFree (clause_among theory.now added.now) values.new hints.now }
+    ensures free { HintsAreFree (clause_among theory.now (slots_of added.now)) values.new hints.now }
 {
     for id in hints {
         free_hint(theory, added, values, *id);
@@ -138,14 +135,14 @@ fn free_hints(
 // the hints, twice, and takes no memory.
 pub(crate) fn follows_by_hints(
     theory: &Theory,
-    added: &[Option<Clause>],
+    added: &Added,
     values: &mut Assignment,
     lits: &[Lit],
     hints: &[ClauseId],
 ) -> bool
     requires room { length theory.now.variables < length values.old }
     requires free { AreFree values.old }
-    ensures exact { IsTrue result ↔ FollowsByHints (clause_among theory.now added.now) (length theory.now.variables + 1) lits.now hints.now }
+    ensures exact { IsTrue result ↔ FollowsByHints (clause_among theory.now (slots_of added.now)) (length theory.now.variables + 1) lits.now hints.now }
     ensures size { length values.new ≡ length values.old }
     ensures free { AreFree values.new }
 {

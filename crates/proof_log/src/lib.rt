@@ -5,6 +5,7 @@
 //! "Efficient Certified RAT Verification", 2017).
 #![tactic(auto)]
 
+mod added;
 mod causes;
 mod clauses;
 mod conditions;
@@ -17,9 +18,11 @@ mod steps;
 mod sums;
 #[cfg(test)]
 mod tests;
+mod validity;
 
 pub use causes::Cause;
 pub use laws::added_are_true;
 pub use logs::Log;
 pub use states::{CheckState, step_cause, step_valid};
 pub use steps::Step;
+pub use validity::{added_stay_true, logs_are_true, logs_stay_valid, steps_keep_logs};

@@ -1,6 +1,7 @@
 // The state in which a step is judged.
 ghost use Rattle.std.specs.Prelude.{◌≡◌, ◌↔◌, ◌+◌, ◌<◌, [], length, Some, None, if◌then◌else◌, IsTrue, IfOk, OnOk, OnErr, max};
 ghost use Rattle.proof_log.specs.declared.causes.Cause.{Cause as CauseOf};
+ghost use Rattle.proof_log.specs.Added.{slots_of};
 ghost use Rattle.proof_log.specs.After.{IsAfter};
 ghost use Rattle.proof_log.specs.States.{AddedAreTrue, IsReserved, clause_among, with_clause};
 ghost use Rattle.proof_log.specs.Steps.{IsJudged, IsStep};
@@ -8,8 +9,9 @@ ghost use Rattle.proof_log.specs.declared.steps.Step.TheVariants.{Loop};
 ghost use Rattle.proof_log.specs.Valid.{AreOfProgram, IsCause, IsValid, Judged, LearnAsks};
 ghost use Rattle.proof_log.specs.Working.{AreFree};
 
+use crate::added::Added;
 use crate::causes::Cause;
-use crate::clauses::{are_clauses, is_added, put, take};
+use crate::clauses::are_clauses;
 use crate::hints::follows_by_hints;
 use crate::laws::added_are_true;
 use crate::loops::{are_of_program, loop_clause};
@@ -25,7 +27,7 @@ pub struct CheckState {
     /// The theory. A clause that a step adds takes its next number, and is kept beside it.
     pub theory: Theory,
     optimised: bool,
-    added: Vec<Option<Clause>>,
+    added: Added,
     marks: Marks,
     values: Assignment,
 }
@@ -36,9 +38,10 @@ impl Model for CheckState {
 
     ghost Value = { StateView };
 
+    ghost use Rattle.proof_log.specs.Added.{slots_of};
     ghost use Rattle.proof_log.specs.Working.{AreClear};
 
-    ghost view = { λ s. record { theory = s.theory; optimised = s.optimised; added = s.added.items; places = length s.values } };
+    ghost view = { λ s. record { theory = s.theory; optimised = s.optimised; added = slots_of s.added; places = length s.values } };
 
     ghost invariant = { λ s. AreClear s.marks s.values };
 }
@@ -53,7 +56,7 @@ impl CheckState {
         let mut state = CheckState {
             theory,
             optimised,
-            added: Vec::new(alloc),
+            added: Added::new(alloc),
             marks: Marks::new(alloc),
             values: Assignment::new(alloc),
         };
@@ -97,7 +100,7 @@ impl CheckState {
             Step::Learn { lits, .. } => self.add_copy(lits)?,
             Step::Loop { atom, others } => self.add_loop(*atom, others.as_slice())?,
             Step::Sum { lits, .. } => self.add_copy(lits)?,
-            Step::Erase { clause } => take(self.added.as_mut_slice(), *clause),
+            Step::Erase { clause } => self.added.take(*clause),
             _ => unreachable!(),
         }
         Ok(())
@@ -109,10 +112,10 @@ impl CheckState {
         ensures err { OnErr result (self.new ≡ self.old) }
     {
         let number = self.theory.next_id().0 as usize;
-        self.added.reserve(number.saturating_sub(self.added.len()))?;
+        self.added.reserve(number)?;
         self.theory.reserve_id()?;
         self.theory.skip();
-        put(&mut self.added, number - 1, clause);
+        self.added.put(number, clause);
         Ok(())
     }
 
@@ -121,7 +124,7 @@ impl CheckState {
         ensures ok { OnOk result (self.new ≡ with_clause self.old clause.now) }
         ensures err { OnErr result (self.new ≡ self.old) }
     {
-        let copy = clause.copy(*self.added.allocator())?;
+        let copy = clause.copy(self.added.allocator())?;
         self.add(copy)?;
         Ok(())
     }
@@ -132,7 +135,7 @@ impl CheckState {
         ensures ok { OnOk result (IsAfter self.old (Loop atom others.now) self.new) }
         ensures err { OnErr result (self.new ≡ self.old) }
     {
-        let alloc = *self.added.allocator();
+        let alloc = self.added.allocator();
         let clause = loop_clause(alloc, &self.theory, &mut self.marks, atom, others)?;
         self.add(clause)?;
         Ok(())
@@ -149,14 +152,14 @@ fn unless(holds: bool, cause: Cause) -> Option<Cause>
 // What comes of a learned clause and its hints.
 fn judge_learned(
     theory: &Theory,
-    added: &[Option<Clause>],
+    added: &Added,
     values: &mut Assignment,
     lits: &Clause,
     hints: &[ClauseId],
 ) -> Option<Cause>
     requires room { length theory.now.variables < length values.old }
     requires free { AreFree values.old }
-    ensures judged { LearnAsks (clause_among theory.now added.now) (length theory.now.variables + 1) lits.now hints.now result }
+    ensures judged { LearnAsks (clause_among theory.now (slots_of added.now)) (length theory.now.variables + 1) lits.now hints.now result }
     ensures size { length values.new ≡ length values.old }
     ensures free { AreFree values.new }
 {
@@ -177,10 +180,9 @@ fn judge(state: &mut CheckState, step: &Step) -> Option<Cause>
 {
     match step {
         Step::Learn { lits, hints } => {
-            let added = state.added.as_slice();
             judge_learned(
                 &state.theory,
-                added,
+                &state.added,
                 &mut state.values,
                 lits,
                 hints.as_slice(),
@@ -193,9 +195,7 @@ fn judge(state: &mut CheckState, step: &Step) -> Option<Cause>
         Step::Sum { guard, lits } => {
             unless(is_sum_clause(&state.theory, *guard, lits), Cause::Sum)
         }
-        Step::Erase { clause } => {
-            unless(is_added(state.added.as_slice(), *clause), Cause::Clause)
-        }
+        Step::Erase { clause } => { unless(state.added.get(*clause).is_some(), Cause::Clause) }
         _ => unreachable!(),
     }
 }

@@ -325,5 +325,10 @@ fn a_log_keeps_its_steps(rt: HostRuntime) -> Result<(), Fail> {
         }
     }
     assert_eq!(rt; log.steps().len(), 11);
+    log.reserve(2)?;
+    log.push_reserved(Step::Improve);
+    log.push(Step::Improve)?;
+    log.push_reserved(Step::Improve);
+    assert_eq!(rt; log.steps().len(), 14);
     Ok(())
 }

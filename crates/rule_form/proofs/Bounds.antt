@@ -11,10 +11,10 @@ use Rattle.rule_form.specs.Globals.{global_variables}
 use Rattle.rule_form.specs.Possible.{If, Setting, level, terms_count, atom_level, IsHeadLevel, Sure, Unsure, May, MayLack, MustLack, Judges, MayHead, MustHead, MakesPossible, MakesCertain, IsPossible, IsCertain}
 use Rattle.rule_form.specs.Static.{InAggregate, IsDefiniteBelow, IsStatic}
 use Rattle.rule_form.specs.Trees.{Terms, nothing, more, Atom, Aggregate, Item, Plain, Each, Agg, Head, One, Choice, Nothing, Rule}
-use Rattle.rule_form.specs.Truth.{AtomSet, In, Out, AggregateHolds, AggregateTrue}
+use Rattle.rule_form.specs.Truth.{AtomSet, In, Out, AggregateHolds, AggregateTrue, HasGuardValues}
 use Rattle.rule_form.specs.Values.{Substitution, AreValues, IsAtom, atom_value}
 use Rattle.rule_form.proofs.Levels.{possible_are, certain_are}
-use Rattle.rule_form.proofs.Literals.{Carries, item_moves, aggregate_moves, condition_moves}
+use Rattle.rule_form.proofs.Literals.{guards_have_values, Carries, item_moves, aggregate_moves, condition_moves}
 
 -- ---- the level of an atom is that of the atom with variables
 
@@ -78,10 +78,14 @@ module _ (st : Setting) (definite : Value → Type 0) (settled : (b : Value) →
     from_judged globals s g low true h = aggregate_moves S U (IsCertain st) (λ b. IsCertain st b → ⊥) globals s g (λ b i. let q = sure_is b (low b i).1 in ((q.0.1, q.0.0), (q.1.1, q.1.0))) h
     from_judged globals s g low false h = aggregate_moves S U (In x) (Out x) globals s g (λ b i. let q = x_is b (low b i).0 (low b i).1 in ((q.0.1, q.0.0), (q.1.1, q.1.0))) h
 
+    guards_by : (globals : List (List ℕ)) (s : Substitution) (g : Aggregate) (t : Bool) → If t (AggregateHolds globals (IsCertain st) (λ b. IsCertain st b → ⊥) s g) (AggregateTrue globals x s g) → HasGuardValues s g
+    guards_by globals s g true h = guards_have_values globals (IsCertain st) (λ b. IsCertain st b → ⊥) s g h
+    guards_by globals s g false h = guards_have_values globals (In x) (Out x) s g h
+
     may_judge : (globals : List (List ℕ)) (s : Substitution) (g : Aggregate) (t : Bool) → (IsTrue t → (b : Value) → InAggregate g b → definite b × (level st b < level st a))
-        → AggregateTrueBy assigned (IsCertain st) globals x s g → If t (AggregateHolds globals S U s g) (Unit {0})
+        → AggregateTrueBy assigned (IsCertain st) globals x s g → If t (AggregateHolds globals S U s g) (HasGuardValues s g)
     may_judge globals s g true low h = to_judged globals s g (low refl) (assigned g) h
-    may_judge globals s g false low h = tt
+    may_judge globals s g false low h = guards_by globals s g (assigned g) h
 
     must_judge : (globals : List (List ℕ)) (s : Substitution) (g : Aggregate) (t : Bool) → (IsTrue t → (b : Value) → InAggregate g b → definite b × (level st b < level st a))
         → If t (AggregateHolds globals S U s g) ⊥ → AggregateTrueBy assigned (IsCertain st) globals x s g
@@ -93,13 +97,13 @@ module _ (st : Setting) (definite : Value → Type 0) (settled : (b : Value) →
       low b d = (d.0, d.1 (level st a) among_heads)
 
       may_carry : (globals : List (List ℕ)) (s : Substitution) (i : Item) → Contains rule.body i
-          → Carries (In x) (Out x) S U (AggregateTrueBy assigned (IsCertain st) globals x s) (Judges st (IsPossible st) (IsCertain st) a (Unit {0}) globals s) i
+          → Carries (In x) (Out x) S U (AggregateTrueBy assigned (IsCertain st) globals x s) (Judges st (IsPossible st) (IsCertain st) a (HasGuardValues s) globals s) i
       may_carry globals s (Plain l) among = tt
       may_carry globals s (Each l c) among = λ b i. let d = low b (static.conditions l c among b i) in let q = x_is b d.0 d.1 in (q.0.1, q.1.1)
       may_carry globals s (Agg g) among = λ h. may_judge globals s g (st.evaluated g) (λ e b i. low b (static.aggregates g among e b i)) h
 
       must_carry : (globals : List (List ℕ)) (s : Substitution) (i : Item) → Contains rule.body i
-          → Carries S U (In x) (Out x) (Judges st (IsPossible st) (IsCertain st) a ⊥ globals s) (AggregateTrueBy assigned (IsCertain st) globals x s) i
+          → Carries S U (In x) (Out x) (Judges st (IsPossible st) (IsCertain st) a (λ g. ⊥) globals s) (AggregateTrueBy assigned (IsCertain st) globals x s) i
       must_carry globals s (Plain l) among = tt
       must_carry globals s (Each l c) among = λ b i. let d = low b (static.conditions l c among b i) in let q = x_is b d.0 d.1 in (q.0.0, q.1.0)
       must_carry globals s (Agg g) among = λ h. must_judge globals s g (st.evaluated g) (λ e b i. low b (static.aggregates g among e b i)) h
@@ -140,7 +144,7 @@ module _ (st : Setting) (definite : Value → Type 0) (settled : (b : Value) →
       s,
       may_head g s rule.head head,
       λ k d lt. item_moves (In y) (Out x) (May st (IsPossible st) (IsCertain st) a) (MayLack st (IsPossible st) (IsCertain st) a) (In x) (Out x) S U
-          (AggregateTrueBy assigned (IsCertain st) g x s) (Judges st (IsPossible st) (IsCertain st) a (Unit {0}) g s) g s (get_or rule.body k d) may may_lack
+          (AggregateTrueBy assigned (IsCertain st) g x s) (Judges st (IsPossible st) (IsCertain st) a (HasGuardValues s) g s) g s (get_or rule.body k d) may may_lack
           (may_carry rule static (head_level st g x y s rule.head a head) g s (get_or rule.body k d) (Contains-get_or rule.body k d lt)) (body k d lt),
     )
 
@@ -149,7 +153,7 @@ module _ (st : Setting) (definite : Value → Type 0) (settled : (b : Value) →
       s,
       h,
       λ k d lt. item_moves S (MustLack st (IsPossible st) (IsCertain st) a) (In x) (Out x) S U (In x) (Out x)
-          (Judges st (IsPossible st) (IsCertain st) a ⊥ g s) (AggregateTrueBy assigned (IsCertain st) g x s) g s (get_or rule.body k d) must must_lack
+          (Judges st (IsPossible st) (IsCertain st) a (λ g'. ⊥) g s) (AggregateTrueBy assigned (IsCertain st) g x s) g s (get_or rule.body k d) must must_lack
           (must_carry rule static (head_level st g x x s rule.head a h) g s (get_or rule.body k d) (Contains-get_or rule.body k d lt)) (body k d lt),
     )
 

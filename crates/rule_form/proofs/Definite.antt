@@ -6,7 +6,7 @@ use Rattle.rule_form.specs.Globals.{global_variables}
 use Rattle.rule_form.specs.Possible.{If, Setting, level, Sure, Unsure, May, MayLack, MustLack, MayItem, MustItem, MayHead, MustHead, IsPossible, IsCertain}
 use Rattle.rule_form.specs.Static.{IsAtomOf, IsHeadAtom, IsOne, IsDefiniteItem, AreStatic}
 use Rattle.rule_form.specs.Trees.{Literal, Pos, Not, Compare, Item, Plain, Each, Agg, Head, One, Choice, Nothing}
-use Rattle.rule_form.specs.Truth.{Holds, HoldsForAll, AggregateHolds}
+use Rattle.rule_form.specs.Truth.{Holds, HoldsForAll, AggregateHolds, HasGuardValues}
 use Rattle.rule_form.specs.Values.{Substitution}
 use Rattle.rule_form.proofs.Levels.{possible_are, certain_are}
 
@@ -30,14 +30,14 @@ module _ (st : Setting) (definite : Value → Type 0) (a : Value) (below : (b : 
   for_all_must u (Not atom) low h = λ b is. let d = low b is in (d.1, λ p. h b is d.1 (below b d.0 d.1 p))
   for_all_must u (Compare left rel right) low h = h
 
-  judged_must : (t : Bool) (Q : Type 0) → IsTrue t → If t Q (Unit {0}) → If t Q ⊥
-  judged_must true Q e h = h
-  judged_must false Q e h = absurd (false≢true e)
+  judged_must : (t : Bool) (Q R : Type 0) → IsTrue t → If t Q R → If t Q ⊥
+  judged_must true Q R e h = h
+  judged_must false Q R e h = absurd (false≢true e)
 
   item_must : (globals : List (List ℕ)) (s : Substitution) (i : Item) → IsDefiniteItem st definite (level st a) i → MayItem st P C a globals s i → MustItem st P C a globals s i
   item_must globals s (Plain l) low h = literal_must s l (low s) h
   item_must globals s (Each l c) low h = λ u agrees sure. for_all_must u l (low u) (h u agrees sure)
-  item_must globals s (Agg g) low h = judged_must (st.evaluated g) (AggregateHolds globals (Sure st P C a) (Unsure st P C a) s g) low h
+  item_must globals s (Agg g) low h = judged_must (st.evaluated g) (AggregateHolds globals (Sure st P C a) (Unsure st P C a) s g) (HasGuardValues s g) low h
 
   head_must : (globals : List (List ℕ)) (s : Substitution) (h : Head) → IsOne h → MayHead st P C a globals s h → MustHead st P C a s h
   head_must globals s (One atom) d is = is

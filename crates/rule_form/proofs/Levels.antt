@@ -5,7 +5,7 @@ use Rattle.ap_term.specs.Value.{Value}
 use Rattle.rule_form.specs.Globals.{global_variables}
 use Rattle.rule_form.specs.Possible.{If, Setting, level, Sure, Unsure, May, MayLack, MustLack, Judges, MayItem, MustItem, MayHead, MustHead, MakesPossible, MakesCertain, PossibleBelow, CertainBelow, IsPossible, IsCertain}
 use Rattle.rule_form.specs.Trees.{Aggregate, Item, Plain, Each, Agg, Head, One, Choice, Nothing, Rule}
-use Rattle.rule_form.specs.Truth.{AggregateHolds}
+use Rattle.rule_form.specs.Truth.{AggregateHolds, HasGuardValues}
 use Rattle.rule_form.specs.Values.{Substitution}
 use Rattle.rule_form.proofs.Literals.{Carries, item_moves, aggregate_moves, condition_moves}
 
@@ -24,11 +24,11 @@ module _ (st : Setting) (possible certain possible' certain' : Value → Type 0)
   judges_same P globals s g true h = aggregate_moves (Sure st possible certain a) (Unsure st possible certain a) (Sure st possible' certain' a) (Unsure st possible' certain' a) globals s g (λ b i. sure_same b) h
   judges_same P globals s g false h = h
 
-  carries : (P : Type 0) (globals : List (List ℕ)) (s : Substitution) (i : Item)
+  carries : (P : Aggregate → Type 0) (globals : List (List ℕ)) (s : Substitution) (i : Item)
       → Carries (Sure st possible certain a) (Unsure st possible certain a) (Sure st possible' certain' a) (Unsure st possible' certain' a) (Judges st possible certain a P globals s) (Judges st possible' certain' a P globals s) i
   carries P globals s (Plain l) = tt
   carries P globals s (Each l c) = λ b i. ((sure_same b).0.1, (sure_same b).1.1)
-  carries P globals s (Agg g) = λ h. judges_same P globals s g (st.evaluated g) h
+  carries P globals s (Agg g) = λ h. judges_same (P g) globals s g (st.evaluated g) h
 
   may_more : (b : Value) → May st possible certain a b → May st possible' certain' a b
   may_more b h = λ lt. (same b lt).0.0 (h lt)
@@ -42,12 +42,12 @@ module _ (st : Setting) (possible certain possible' certain' : Value → Type 0)
   may_item : (globals : List (List ℕ)) (s : Substitution) (i : Item) → MayItem st possible certain a globals s i → MayItem st possible' certain' a globals s i
   may_item globals s i h = item_moves (May st possible certain a) (MayLack st possible certain a) (May st possible' certain' a) (MayLack st possible' certain' a)
       (Sure st possible certain a) (Unsure st possible certain a) (Sure st possible' certain' a) (Unsure st possible' certain' a)
-      (Judges st possible certain a (Unit {0}) globals s) (Judges st possible' certain' a (Unit {0}) globals s) globals s i may_more may_lack_more (carries (Unit {0}) globals s i) h
+      (Judges st possible certain a (HasGuardValues s) globals s) (Judges st possible' certain' a (HasGuardValues s) globals s) globals s i may_more may_lack_more (carries (HasGuardValues s) globals s i) h
 
   must_item : (globals : List (List ℕ)) (s : Substitution) (i : Item) → MustItem st possible certain a globals s i → MustItem st possible' certain' a globals s i
   must_item globals s i h = item_moves (Sure st possible certain a) (MustLack st possible certain a) (Sure st possible' certain' a) (MustLack st possible' certain' a)
       (Sure st possible certain a) (Unsure st possible certain a) (Sure st possible' certain' a) (Unsure st possible' certain' a)
-      (Judges st possible certain a ⊥ globals s) (Judges st possible' certain' a ⊥ globals s) globals s i (λ b. (sure_same b).0.0) must_lack_more (carries ⊥ globals s i) h
+      (Judges st possible certain a (λ g. ⊥) globals s) (Judges st possible' certain' a (λ g. ⊥) globals s) globals s i (λ b. (sure_same b).0.0) must_lack_more (carries (λ g. ⊥) globals s i) h
 
   may_head : (globals : List (List ℕ)) (s : Substitution) (h : Head) → MayHead st possible certain a globals s h → MayHead st possible' certain' a globals s h
   may_head globals s (One atom) is = is

@@ -1,11 +1,11 @@
 -- What holds by one reading of atoms holds by another that grants more.
-use Rattle.std.proofs.Common.{ℕ, List, Contains, All, get_or}
+use Rattle.std.proofs.Common.{ℕ, ℤ, Bool, List, Option, Some, None, Contains, All, get_or}
 use Rattle.std.specs.Prelude.{◌↔◌}
 use Rattle.std.proofs.lemmas.List.Elements.{Contains-get_or}
 use Rattle.ap_term.specs.Value.{Value, Values}
 use Rattle.rule_form.specs.Static.{IsAtomOf, InCondition, InAggregate}
-use Rattle.rule_form.specs.Trees.{Literal, Pos, Not, Compare, Element, Aggregate, Item, Plain, Each, Agg}
-use Rattle.rule_form.specs.Truth.{Holds, HoldsForAll, IsCounted, AggregateHolds, ItemHolds}
+use Rattle.rule_form.specs.Trees.{Literal, Pos, Not, Compare, Guard, Element, Aggregate, Item, Plain, Each, Agg}
+use Rattle.rule_form.specs.Truth.{Holds, HoldsForAll, IsCounted, AggregateHolds, ItemHolds, HasGuardValue, HasGuardValues, LeftHolds, RightHolds}
 use Rattle.rule_form.specs.Values.{Substitution}
 
 pub reads_moves : (has lacks has' lacks' : Value → Type 0) (u : Substitution) (l : Literal) → ((b : Value) → IsAtomOf u l b → has b → has' b) → ((b : Value) → IsAtomOf u l b → lacks b → lacks' b)
@@ -64,3 +64,16 @@ item_moves has lacks has' lacks' held unheld held' unheld' evaluate judge' globa
 item_moves has lacks has' lacks' held unheld held' unheld' evaluate judge' globals s (Each l c) f g carries h = λ u agrees holds.
     for_all_moves has lacks has' lacks' u l f g (h u agrees (condition_moves held' unheld' held unheld c (λ b i. (carries b i).0) (λ b i. (carries b i).1) u holds))
 item_moves has lacks has' lacks' held unheld held' unheld' evaluate judge' globals s (Agg g') f g carries h = carries h
+
+-- ---- an aggregate that holds has values for its guards
+
+of_left : (s : Substitution) (n : ℤ) (guard : Option Guard) (b : Bool) → LeftHolds s n guard b → HasGuardValue s guard
+of_left s n None b h = tt
+of_left s n (Some guard) b (v, is, range, e) = (v, is, range)
+
+of_right : (s : Substitution) (n : ℤ) (guard : Option Guard) (b : Bool) → RightHolds s n guard b → HasGuardValue s guard
+of_right s n None b h = tt
+of_right s n (Some guard) b (v, is, range, e) = (v, is, range)
+
+pub guards_have_values : (globals : List (List ℕ)) (has lacks : Value → Type 0) (s : Substitution) (g : Aggregate) → AggregateHolds globals has lacks s g → HasGuardValues s g
+guards_have_values globals has lacks s g (n, l, r, number, left, right, t) = (of_left s n g.left l left, of_right s n g.right r right)

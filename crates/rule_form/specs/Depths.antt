@@ -1,5 +1,5 @@
 -- The values whose depth is limited: arguments of possible atoms, and values of the terms of rules.
-use Rattle.std.specs.Prelude.{◌⊎◌, ◌<◌, ℕ, pos, if◌then◌else◌, suc, zero, Bool, true, false, not, ◌&&◌, List, [], ◌∷◌, ◌++◌, Option, Some, None, Contains, IfSome, map, flat_map}
+use Rattle.std.specs.Prelude.{◌⊎◌, ◌<◌, ℕ, pos, if◌then◌else◌, suc, zero, Bool, true, false, not, ◌&&◌, List, [], ◌∷◌, ◌++◌, Option, Some, None, Contains, IfSome, IsTrue, map, flat_map}
 use Rattle.std.specs.List.{list_any}
 use Rattle.std.specs.Str.{bytes_eq}
 use Rattle.ap_syntax.specs.declared.terms.Rel.{Rel}
@@ -8,7 +8,7 @@ use Rattle.ap_term.specs.Value.{Value, integer, constant, string, compound, dept
 use Rattle.rule_form.specs.Instances.{value_list}
 use Rattle.rule_form.specs.Relevant.{IsUncertain}
 use Rattle.rule_form.specs.Arguments.{arguments_of}
-use Rattle.rule_form.specs.Globals.{Agrees, global_variables}
+use Rattle.rule_form.specs.Globals.{Agrees, global_variables, variables}
 use Rattle.rule_form.specs.Possible.{Setting, IsPossible, IsCertain}
 use Rattle.rule_form.specs.Trees.{Term, Variable, Anything, Fixed, Compound, Operation, Interval, Terms, nothing, more, Atom, Literal, Pos, Not, Compare, Guard, Element, Aggregate, Item, Plain, Each, Agg, Choosable, Head, One, Choice, Nothing, Rule}
 use Rattle.rule_form.specs.Truth.{Holds, AggregateHolds}
@@ -123,14 +123,24 @@ literal_terms (Pos atom) = term_list atom.terms
 literal_terms (Not atom) = term_list atom.terms
 literal_terms (Compare left rel right) = left ∷ right ∷ []
 
+-- those of a literal that gives no values to variables: the values of the terms of a positive atom are arguments of possible atoms
+abbrev pub tested_terms : Literal → List Term
+tested_terms (Pos atom) = []
+tested_terms (Not atom) = term_list atom.terms
+tested_terms (Compare left rel right) = left ∷ right ∷ []
+
+-- no `_` is in the term. A `_` beside `=` has the value of the other side, and the number of an aggregate is as deep as any
+abbrev pub is_named : Term → Bool
+is_named t = is_bound (variables t) t
+
 -- the term of a guard
 abbrev pub guard_terms : Option Guard → List Term
 guard_terms None = []
 guard_terms (Some guard) = guard.term ∷ []
 
--- the terms of a part of a body outside braces and conditional literals
+-- the terms of a part of a body outside braces and conditional literals, but for those of positive atoms
 abbrev pub item_terms : Item → List Term
-item_terms (Plain l) = literal_terms l
+item_terms (Plain l) = tested_terms l
 item_terms (Each l c) = []
 item_terms (Agg g) = guard_terms g.left ++ guard_terms g.right
 
@@ -145,9 +155,9 @@ pub record Part : Type 0 where
   pub terms : List Term
   pub condition : List Literal
 
--- the part with these terms and those of its condition
+-- the part with these terms and those of its condition, but for those of positive atoms
 abbrev pub part_of : List Term → List Literal → Part
-part_of terms condition = record { terms = terms ++ flat_map literal_terms condition; condition = condition }
+part_of terms condition = record { terms = terms ++ flat_map tested_terms condition; condition = condition }
 
 -- the parts of an aggregate, and a conditional literal
 abbrev pub item_parts : Item → List Part
@@ -179,14 +189,15 @@ module _ (setting : Setting) (assigned : List (List ℕ) → Aggregate → Bool)
   abbrev pub OfRule : Value → Type 0
   OfRule v = (rule : Rule) × (s : Substitution) × (t : Term) × Contains setting.rules rule
       × HasValues setting assigned (global_variables rule) [] s rule.body
-      × Contains (head_terms rule.head ++ flat_map item_terms rule.body) t × IsValue s t v
+      × Contains (head_terms rule.head ++ flat_map item_terms rule.body) t × IsTrue (is_named t) × IsValue s t v
 
   -- global variables keep their values in a part
   abbrev pub OfPart : Value → Type 0
   OfPart v = (rule : Rule) × (s u : Substitution) × (part : Part) × (t : Term) × Contains setting.rules rule
       × HasValues setting assigned (global_variables rule) [] s rule.body
       × Contains (head_parts rule.head ++ flat_map item_parts rule.body) part × Agrees (global_variables rule) s u
-      × HasValues setting assigned (global_variables rule) (global_variables rule) u (map (λ l. Plain l) part.condition) × Contains part.terms t × IsValue u t v
+      × HasValues setting assigned (global_variables rule) (global_variables rule) u (map (λ l. Plain l) part.condition) × Contains part.terms t × IsTrue (is_named t)
+      × IsValue u t v
 
   -- such a value is deeper than d
   abbrev pub IsTooDeep : ℕ → Type 0

@@ -4,7 +4,7 @@ use Rattle.std.specs.Prelude.{◌≡◌, ◌⊎◌, ℕ, zero, suc, ◌<◌, Boo
 use Rattle.ap_term.specs.Value.{Value, integer, constant, string, compound, arity}
 use Rattle.rule_form.specs.Globals.{Agrees, global_variables}
 use Rattle.rule_form.specs.Trees.{Terms, nothing, more, Atom, Aggregate, Item, Choosable, Head, One, Choice, Nothing, Rule}
-use Rattle.rule_form.specs.Truth.{HasGuardValue, Holds, ItemHolds, AggregateHolds}
+use Rattle.rule_form.specs.Truth.{HasGuardValue, HasGuardValues, Holds, ItemHolds, AggregateHolds}
 use Rattle.rule_form.specs.Values.{Substitution, IsAtom}
 
 -- P where the test is true, and else Q
@@ -70,17 +70,17 @@ module _ (setting : Setting) (possible certain : Value → Type 0) (a : Value) w
   MustLack b = Lower b × (possible b → ⊥)
 
   -- conditions of conditional literals, and aggregates over definite predicates, are read in the certain atoms of lower components;
-  -- any other aggregate counts as P
-  abbrev pub Judges : Type 0 → List (List ℕ) → Substitution → Aggregate → Type 0
-  Judges P globals s g = If (setting.evaluated g) (AggregateHolds globals Sure Unsure s g) P
+  -- any other aggregate counts as P tells
+  abbrev pub Judges : (Aggregate → Type 0) → List (List ℕ) → Substitution → Aggregate → Type 0
+  Judges P globals s g = If (setting.evaluated g) (AggregateHolds globals Sure Unsure s g) (P g)
 
-  -- the part counts as true for the possible atoms
+  -- the part counts as true for the possible atoms; an aggregate does where its guards have values, since there is no instance else
   abbrev pub MayItem : List (List ℕ) → Substitution → Item → Type 0
-  MayItem globals s item = ItemHolds May MayLack Sure Unsure (Judges (Unit {0}) globals s) globals s item
+  MayItem globals s item = ItemHolds May MayLack Sure Unsure (Judges (HasGuardValues s) globals s) globals s item
 
   -- the part counts as true for the certain atoms
   abbrev pub MustItem : List (List ℕ) → Substitution → Item → Type 0
-  MustItem globals s item = ItemHolds Sure MustLack Sure Unsure (Judges ⊥ globals s) globals s item
+  MustItem globals s item = ItemHolds Sure MustLack Sure Unsure (Judges (λ g. ⊥) globals s) globals s item
 
   -- the condition of a choice's element is one of the parts
   abbrev pub MayHead : List (List ℕ) → Substitution → Head → Type 0

@@ -114,6 +114,10 @@ abbrev pub HasGuardValue : Substitution → Option Guard → Type 0
 HasGuardValue s None = Unit {0}
 HasGuardValue s (Some guard) = (v : Value) × IsValue s guard.term v × IsOfRange v
 
+-- each guard of the aggregate that is there has a value
+abbrev pub HasGuardValues : Substitution → Aggregate → Type 0
+HasGuardValues s g = HasGuardValue s g.left × HasGuardValue s g.right
+
 -- b tells whether the guard holds of n, with one of the guard's values; a guard that is not there holds
 abbrev pub LeftHolds : Substitution → ℤ → Option Guard → Bool → Type 0
 LeftHolds s n None b = b ≡ true

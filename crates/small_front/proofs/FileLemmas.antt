@@ -11,16 +11,19 @@ use Rattle.ap_syntax.specs.declared.programs.Statement.{Statement}
 use Rattle.pref_parse.specs.Readings.{IsReading}
 use Rattle.ap_lexemes.specs.declared.fault.ParseFault.TheVariants.{Syntax, Unsupported, Limit}
 use Rattle.small_front.specs.Stages.{ReadingCause, refusal_of}
-use Rattle.small_front.specs.Files.{AreRead, FirstFault, bytes_of}
+use Rattle.ap_base.specs.Readings.{bytes_of}
+use Rattle.small_front.specs.Files.{AreRead, FirstFault, apart}
 
 -- one more file
-push : (n m : ℕ) (files : List (List ℕ)) (ss : List Statement) (bytes : List ℕ) (p : Program) → AreRead n files ss → m ≡ n + length files → IsReading bytes m (Ok p) → AreRead n (files ++ bytes ∷ []) (ss ++ p.statements)
+push : (n m : ℕ) (files : List (List ℕ)) (ss : List Statement) (bytes : List ℕ) (p : Program) → AreRead n files ss → m ≡ n + length files → IsReading bytes m (Ok p)
+    → AreRead n (files ++ bytes ∷ []) (ss ++ apart m (length bytes) p.statements)
 push n m [] [] bytes p AreRead.none e r =
-    let e' : m ≡ n = omega (arith, e) in
-    subst (AreRead n (bytes ∷ [])) (append-nil p.statements) (AreRead.file (subst (λ k. IsReading bytes k (Ok p)) e' r) AreRead.none)
+    let e' : n ≡ m = omega (arith, e) in
+    subst (λ k. AreRead k (bytes ∷ []) (apart m (length bytes) p.statements)) (sym e')
+    (subst (AreRead m (bytes ∷ [])) (append-nil (apart m (length bytes) p.statements)) (AreRead.file r AreRead.none))
 push n m [] (s ∷ ss) bytes p read e r = elim read [ ]
 push n m (b ∷ files) ss bytes p (AreRead.file {p = q} {more = more} r0 rest) e r =
-    subst (AreRead n (b ∷ files ++ bytes ∷ [])) (sym (append_assoc q.statements more p.statements))
+    subst (AreRead n (b ∷ files ++ bytes ∷ [])) (sym (append_assoc (apart n (length b) q.statements) more (apart m (length bytes) p.statements)))
     (AreRead.file r0 (push (n + 1) m files more bytes p rest (omega (arith, e)) r))
 
 -- the first file that is at fault
@@ -37,11 +40,12 @@ number_at : (files : List (Vec ℕ Global)) (i : ℕ) → i < length files → i
 number_at files i lt =
     let l = length-map (take i files) (λ (file : Vec ℕ Global). file.items) ∙ length-take-le i files (omega arith) in omega (arith, l)
 
-pub AreRead-more : (files : List (Vec ℕ Global)) (i : ℕ) (file : Vec ℕ Global) (ss : List Statement) (p : Program) → i < length files → file ≡ get_or files i file → AreRead 1 (bytes_of (take i files)) ss → IsReading file.items (i + 1) (Ok p) → AreRead 1 (bytes_of (take (i + 1) files)) (ss ++ p.statements)
+pub AreRead-more : (files : List (Vec ℕ Global)) (i : ℕ) (file : Vec ℕ Global) (ss : List Statement) (p : Program) → i < length files → file ≡ get_or files i file → AreRead 1 (bytes_of (take i files)) ss → IsReading file.items (i + 1) (Ok p)
+    → AreRead 1 (bytes_of (take (i + 1) files)) (ss ++ apart (i + 1) (length file.items) p.statements)
 AreRead-more files i file ss p lt is read r =
     let front : take (i + 1) files ≡ take i files ++ file ∷ [] = take_more files i file lt ∙ ap (λ f. take i files ++ f ∷ []) (sym is) in
     let bytes = ap bytes_of front ∙ map-append (λ (f : Vec ℕ Global). f.items) (take i files) (file ∷ []) in
-    subst (λ all. AreRead 1 all (ss ++ p.statements)) (sym bytes)
+    subst (λ all. AreRead 1 all (ss ++ apart (i + 1) (length file.items) p.statements)) (sym bytes)
     (push 1 (i + 1) (bytes_of (take i files)) ss file.items p read (number_at files i lt) r)
 
 FirstFault-at : (files : List (Vec ℕ Global)) (i : ℕ) (file : Vec ℕ Global) (ss : List Statement) (fault : ParseFault) → i < length files → file ≡ get_or files i file → AreRead 1 (bytes_of (take i files)) ss → IsReading file.items (i + 1) (Err fault) → fault ≢ Memory → FirstFault 1 (bytes_of files) (i + 1) fault

@@ -1,5 +1,5 @@
--- What files come to: a small program with what is shown, or a refusal. The refusals come in this order: what is no text; what
--- is not of the small language; a constant that is declared twice.
+-- What files come to: a small program with what is shown, or a refusal. The refusals come in this order: what is no
+-- text; what is not of the small language; a constant that is declared twice.
 use Rattle.std.specs.Prelude.{◌≡◌, ℕ, List, None, Some}
 use Rattle.ap_syntax.specs.declared.programs.Statement.{Statement}
 use Rattle.small_front.specs.Files.{AreRead, FirstFault}

@@ -118,7 +118,8 @@ preference_with name kind elements = record { name = name; kind = kind; elements
 -- the small preference statement that stands for one, if it has one: of the type `subset`, with such elements
 abbrev pub small_preference : Preference → Option small_preferences.Preference
 small_preference p =
-    if bytes_eq p.kind (codes "subset") then option_map (preference_with p.name p.kind) (each element_of p.elements) else None
+    if bytes_eq p.kind (codes "subset") then option_map (preference_with p.name p.kind) (each element_of p.elements)
+    else None
 
 -- ---- programs
 
@@ -128,7 +129,7 @@ small_statement_of (statement.Preference p) = option_map small_statement.Prefere
 small_statement_of (statement.Optimize file at name) = Some (small_statement.Optimize name)
 small_statement_of other = None
 
--- The small program of some statements: what stands for its rules, preference statements and `#optimize` statements, in order.
--- All else leaves nothing. No term stands in a small program, so the values of constants do not count.
+-- The small program of some statements: what stands for its rules, preference statements and `#optimize` statements,
+-- in order. All else leaves nothing. No term stands in a small program, so the values of constants do not count.
 abbrev pub small_of : List Statement → small_programs.Program
 small_of ss = record { statements = filter_map small_statement_of ss }

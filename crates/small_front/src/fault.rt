@@ -23,7 +23,8 @@ pub enum FrontFault {
         /// The byte, from 0, at which the statement begins.
         at: u32,
     },
-    /// All statements are of the small language, and this `#const` is the first of a name that has a `#const` before it.
+    /// All statements are of the small language, and this `#const` is the first of a name that has a `#const` before
+    /// it.
     #[error("file {file}, byte {at}: a constant is declared twice")]
     ConstTwice {
         /// The number of the file.

@@ -1,7 +1,7 @@
 // From the bytes of files to what is accepted.
 ghost use Rattle.std.specs.Prelude.{◌≤◌, ◌<◌, All, length, IfOk, IfErr};
+ghost use Rattle.ap_base.specs.Readings.{bytes_of};
 ghost use Rattle.small_front.specs.Accepts.{FrontCause, IsAccepted};
-ghost use Rattle.small_front.specs.Files.{bytes_of};
 
 use crate::accepted::Accepted;
 use crate::constants::second_const;
@@ -13,16 +13,17 @@ use crate::program::small_program;
 use crate::shown::shown_by;
 use std::alloc::Global;
 
-/// The small program of all files together, with the atoms that are shown, or the first refusal. Files are numbered from 1 in
-/// the order in which they are given; each has at most 16,777,216 bytes, and they are fewer than 4,294,967,295.
+/// The small program of all files together, with the atoms that are shown, or the first refusal. Files are numbered
+/// from 1 in the order in which they are given; each has at most 16,777,216 bytes, and they are fewer than
+/// 4,294,967,295. Each is a text of its own that begins in the part `base`.
 ///
-/// `Reading` comes exactly for the first file that is not the text of a program, with its fault. Where all are, `Later` comes
-/// exactly for the first statement that is not of the small language: a rule whose head is not an atom without arguments, a
-/// choice of such atoms without guards and conditions, or nothing, or whose body has something else than such atoms and
-/// `not` before such atoms; a preference statement of another type than `subset`, with other elements than such atoms, or
-/// behind another one; an `#optimize` behind another one or of a name that no preference statement has; and the part of a
-/// type. Where there is none, `ConstTwice` comes exactly for the first `#const` of a name that has one before it. `Memory`
-/// comes where memory ran out.
+/// `Reading` comes exactly for the first file that is not the text of a program, with its fault. Where all are,
+/// `Later` comes exactly for the first statement that is not of the small language: a rule whose head is not an atom
+/// without arguments, a choice of such atoms without guards and conditions, or nothing, or whose body has something
+/// else than such atoms and `not` before such atoms; a preference statement of another type than `subset`, with other
+/// elements than such atoms, or behind another one; an `#optimize` behind another one or of a name that no preference
+/// statement has; and the part of a type. Where there is none, `ConstTwice` comes exactly for the first `#const` of a
+/// name that has one before it. `Memory` comes where memory ran out.
 pub fn accept(alloc: Global, files: &[Vec<u8>]) -> Result<Accepted, FrontFault>
     requires sizes { All (λ file. length file.items ≤ 16777216) files.now }
     requires few { length files.now < 4294967295 }

@@ -44,8 +44,8 @@ fn place_if(is_later: bool, file: u32, at: u32) -> Option<Place>
     }
 }
 
-/// The place of a statement that is of a later form; `preferred` and `optimised` say whether a preference statement and an
-/// `#optimize` stand before it.
+/// The place of a statement that is of a later form; `preferred` and `optimised` say whether a preference statement
+/// and an `#optimize` stand before it.
 fn later_place(
     all: &[Statement],
     preferred: bool,

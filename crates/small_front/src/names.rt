@@ -44,7 +44,8 @@ impl Names {
 
     /// Adds a name, unless it is there. It fails for want of memory alone.
     pub fn insert(&mut self, alloc: Global, name: &Text) -> Result<(), AllocError>
-        ensures { OnOk result ((other : List ℕ) → is_named self.new other ≡ (bytes_eq name.now other || is_named self.old other)) }
+        ensures { OnOk result ((other : List ℕ)
+            → is_named self.new other ≡ (bytes_eq name.now other || is_named self.old other)) }
     {
         self.names.insert(name.copy(alloc)?)?;
         Ok(())

@@ -49,7 +49,8 @@ impl<T: Drop> From<AllocFailed<T>> for TrialFault {
     }
 }
 
-/// Lists the optimal answer sets of a program, in order. `TooMany` comes exactly where its rules have more than 12 atoms.
+/// Lists the optimal answer sets of a program, in order. `TooMany` comes exactly where its rules have more than 12
+/// atoms.
 pub fn list_optima(alloc: Global, p: &Program) -> Result<Optima, TrialFault>
     ensures found { IfOk result (AreOptima p.now) }
     ensures few { OnOk result (atom_count p.now ≤ 12) }

@@ -17,7 +17,7 @@ use Rattle.theory_model.specs.Loops.{AreAtomsOf, IsExternal, IsLoopTrue}
 use Rattle.theory_model.specs.Models.{IsModel}
 use Rattle.ground_form.specs.Ranges.{IsNumberOf}
 use Rattle.theory_law.specs.Cuts.{AgreeOn}
-use Rattle.theory_law.specs.Whole.{IsWhole}
+use Rattle.theory_model.specs.Whole.{IsWhole}
 use Rattle.theory_law.proofs.Membership.{in_from_Contains}
 use Rattle.theory_law.proofs.Entries.{IsBefore, AgreeBefore, IsKindBefore, in_before, clause_rests, sum_rests}
 use Rattle.theory_law.proofs.Slots.{AreSlotsTrue, slots_from_clauses, clauses_from_slots}

@@ -1,20 +1,21 @@
 -- The models of a theory with a program behind it.
-use Rattle.std.proofs.Common.{◌≡◌, ℕ, zero, suc, ◌+◌, ◌-◌, ◌<◌, ◌≤◌, Bool, true, false, ◌&&◌, ◌||◌, List, [], ◌∷◌, ◌++◌, map, take, length, refl, sym, ap, ◌∙◌, subst, Option, Some, None, ⊎_elim, inl, inr, arith}
+use Rattle.std.proofs.Common.{◌≡◌, ℕ, zero, suc, ◌+◌, ◌-◌, ◌<◌, ◌≤◌, Bool, true, false, ◌&&◌, ◌||◌, List, [], ◌∷◌, ◌++◌, map, length, refl, sym, ap, ◌∙◌, subst, Option, Some, None, ⊎_elim, inl, inr, arith}
 use mathlib.Core.Path.{fun_ext}
 use Rattle.std.specs.Prelude.{◌==◌, IsSomeAnd, Contains, slice_get, nat_le, if◌then◌else◌}
 use Rattle.std.specs.Option.{option_and_then}
 use Rattle.std.specs.List.{list_any, zip}
-use Rattle.std.proofs.lemmas.List.{append-nil, length-take, take-append-le}
-use Rattle.std.proofs.Math.Seq.{take-length}
+use Rattle.std.proofs.lemmas.List.{append-nil}
 use Rattle.std.proofs.lemmas.Bool.{and_right, cases_Bool, cases_lt, le-leb, lt-leb}
 use Rattle.theory_form.specs.declared.literals.Lit.{Lit}
 use Rattle.theory_form.specs.declared.rows.VarKind.{VarKind}
 use Rattle.theory_form.specs.declared.rows.VarKind.TheVariants.{Atom, Sum, Body, Search, Other}
 use Rattle.theory_form.specs.Kinds.{atom_block, atom_supports, body_row, IsKind}
-use Rattle.theory_form.specs.Theories.{TheoryView, Extends, kind_of, block_of, supports_of}
+use Rattle.theory_form.specs.Theories.{TheoryView, kind_of, block_of, supports_of}
 use Rattle.theory_model.specs.Truth.{literal_true}
 use Rattle.theory_model.specs.Loops.{is_positive_in, rests_on, is_internal, IsExternal, AreAtomsOf, IsLoopTrue}
 use Rattle.theory_model.specs.Models.{IsModel}
+use Rattle.theory_model.specs.Whole.{IsWhole}
+use Rattle.theory_model.proofs.GrowthLemmas.{model_before}
 use Rattle.ground_form.specs.Programs.{Parts}
 use Rattle.ground_form.specs.Ranges.{IsNumberOf}
 use Rattle.ground_form.specs.AnswerSets.{IsAnswerSetWith}
@@ -27,8 +28,8 @@ use Rattle.theory_build.specs.Groups.{groups_piece}
 use Rattle.theory_build.specs.Bodies.{body_entries}
 use Rattle.theory_build.specs.Atoms.{atom_entries, constraint_clauses}
 use Rattle.theory_build.specs.Completion.{kinds_of, clauses_of, frame_behind, later_entries, with_program, base_theory, HasBase}
+use Rattle.theory_build.proofs.BaseLemmas.{base_itself, base_kept, program_extends}
 use Rattle.theory_law.specs.Cuts.{cut, facts_of, AgreeOn}
-use Rattle.theory_law.specs.Whole.{IsWhole}
 use Rattle.theory_law.specs.Appending.{CanStandBehind}
 use Rattle.theory_law.proofs.Membership.{In, All-in}
 use Rattle.theory_law.proofs.Entries.{AreBefore, AgreeBefore, AreEntriesTrue, AreDefined, IsKindBefore, extend, extend_before, extend_true, one_extension, in_before}
@@ -36,29 +37,15 @@ use Rattle.theory_law.proofs.Bodies.{rest_defined}
 use Rattle.theory_law.proofs.GroupValues.{Fits}
 use Rattle.theory_law.proofs.Levels.{step, one_fixed, stable_set, fixed_from_answer, answer_from_fixed}
 use Rattle.theory_law.proofs.Blocks.{cut_at, cut_back, fact_range, zip_right}
-use Rattle.theory_law.proofs.Slots.{slots_from_clauses, kinds_from_sums, clauses_from_slots, sums_from_kinds}
+use Rattle.theory_law.proofs.Slots.{slots_from_clauses, kinds_from_sums}
 use Rattle.theory_law.proofs.Layouts.{IsLaidOut, slice_get_front, block_parts, stand_before, newer_block, variables_length}
 use Rattle.theory_law.proofs.Programs.{HasClauses, all_from_model, answer_from_model, model_from_answer}
 use Rattle.theory_law.proofs.Wholes.{before_from_over, whole_kinds, whole_slots, whole_with}
 use Rattle.theory_law.proofs.Truths.{truth_within, truth_true}
 use Rattle.theory_law.proofs.Agreeing.{block_range, kind_at, support_range, model_agrees}
 
--- what a theory begins with, it begins with after more variables, clauses and a program
-front_within : {X : Type 0} (xs ys : List X) → take (length xs) ys ≡ xs → length xs ≤ length ys
-front_within xs ys e = omega (arith, ap length e, length-take (length xs) ys)
-
-front_more : {X : Type 0} (xs ys zs : List X) → take (length xs) ys ≡ xs → take (length xs) (ys ++ zs) ≡ xs
-front_more xs ys zs e = take-append-le (length xs) ys zs (front_within xs ys e) ∙ e
-
-extends_more : (t : TheoryView) (base : Parts) → Extends (base_theory base) t → (kinds : List VarKind) (slots : List (Option (List Lit))) → Extends (base_theory base) (record t { variables = t.variables ++ kinds; clauses = t.clauses ++ slots; blocks = t.blocks + 1 })
-extends_more t base e kinds slots = record {
-  variables = front_more (base_theory base).variables t.variables kinds e.variables;
-  clauses = front_more (base_theory base).clauses t.clauses slots e.clauses;
-  blocks = omega (arith, e.blocks);
-}
-
 pub base_begins : (g : Parts) → HasBase (base_theory g)
-base_begins g = record { base = g; begins = record { variables = take-length (base_theory g).variables; clauses = take-length (base_theory g).clauses; blocks = omega arith } }
+base_begins g = base_itself (base_theory g) g refl
 
 module _ (t : TheoryView) (g : Parts) (joins : List Lit) (can : CanStandBehind t g joins) where
   abbrev p : Frame
@@ -129,16 +116,6 @@ module _ (t : TheoryView) (g : Parts) (joins : List Lit) (can : CanStandBehind t
   supports_same v le = ap (option_and_then atom_supports) (kind_older v le)
 
   -- the loops of the older programs are those that they were
-  loop_back : (f u : ℕ → Bool) (block : ℕ) → AreAtomsOf t block u → (v : ℕ) → IsLoopTrue later f u v → IsLoopTrue t f u v
-  loop_back f u block atoms v loop fv =
-      let some = loop fv in
-      let l : Lit = some.0 in
-      let ext : IsExternal later u l = some.1 in
-      let old : ext.0 ≤ length t.variables = (block_range t ext.0 block (atoms ext.0 ext.1)).1 in
-      let listed : IsSomeAnd (supports_of t ext.0) (λ supports. Contains supports l) = subst (λ o. IsSomeAnd o (λ supports. Contains supports l)) (supports_same ext.0 old) ext.2 in
-      let over = support_range t can.whole ext.0 l listed in
-      (l, (ext.0, ext.1, listed, sym (internal_same u l (omega (arith, over.below))) ∙ ext.3), some.2)
-
   loop_on : (f u : ℕ → Bool) (block : ℕ) → AreAtomsOf t block u → (v : ℕ) → IsLoopTrue t f u v → IsLoopTrue later f u v
   loop_on f u block atoms v loop fv =
       let some = loop fv in
@@ -187,14 +164,7 @@ module _ (t : TheoryView) (g : Parts) (joins : List Lit) (can : CanStandBehind t
   -- ---- a model of the whole is a model of what the program stands behind
 
   pub behind_keeps : (f : ℕ → Bool) → IsModel later f → IsModel t f
-  unfolding laid
-  behind_keeps f model =
-      let all = all_from_model later p g laid t.clauses has f model in
-      record {
-        clauses = clauses_from_slots f t.clauses all.older_slots;
-        sums = sums_from_kinds f t.variables all.older_kinds;
-        loops = λ block u atoms v uv. loop_back f u block atoms v (model.loops block u (atoms_newer u block atoms) v uv);
-      }
+  behind_keeps f model = model_before t later (program_extends t g joins) f model
 
   pub behind_sound : (f : ℕ → Bool) → IsModel later f → IsAnswerSetWith g (facts_of g joins f) (cut (length t.variables) g f)
   behind_sound f model = answer_from_model later p g laid t.clauses has can.program joined_apart f (truth_true t can.base f (behind_keeps f model)) model
@@ -316,5 +286,4 @@ module _ (t : TheoryView) (g : Parts) (joins : List Lit) (can : CanStandBehind t
       (whole_kinds t can.whole) (whole_slots t can.whole) tt tt
 
   pub behind_base : HasBase later
-  unfolding with_program
-  behind_base = record { base = can.base.base; begins = extends_more t can.base.base can.base.begins (kinds_of (later_entries p g)) (map (λ c. Some c) (clauses_of (later_entries p g) ++ constraint_clauses p g)) }
+  behind_base = base_kept t later can.base (program_extends t g joins)

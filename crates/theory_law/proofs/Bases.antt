@@ -22,7 +22,7 @@ use Rattle.theory_build.specs.Bodies.{body_entries}
 use Rattle.theory_build.specs.Completion.{base_entries, base_theory}
 use Rattle.theory_law.specs.Cuts.{cut, facts_of, AgreeOn, HasGuard}
 use Rattle.theory_law.proofs.Membership.{In}
-use Rattle.theory_law.specs.Whole.{IsWhole}
+use Rattle.theory_model.specs.Whole.{IsWhole}
 use Rattle.theory_law.proofs.Wholes.{entry_more, whole_with}
 use Rattle.theory_law.proofs.Entries.{IsEntryBefore, AreEntriesTrue, AreDefined, AgreeBefore, extend, extend_before, extend_behind, extend_true, one_extension, truth_says, truth_defined}
 use Rattle.theory_law.proofs.GroupValues.{Fits}

@@ -67,8 +67,8 @@ pub record IsEntryBefore (v : ℕ) (e : Entry) : Type 0 where
 abbrev pub AgreeBefore : ℕ → (ℕ → Bool) → (ℕ → Bool) → Type 0
 AgreeBefore v f h = (w : ℕ) → IsBefore v w → f w ≡ h w
 
--- What comes with the variable is true exactly where it has a value that rests on the variables before it. It is no atom,
--- and not the search guard.
+-- What comes with the variable is true exactly where it has a value that rests on the variables before it; a body's is that
+-- all its literals are true. It is no atom, and not the search guard.
 pub record IsDefined (v : ℕ) (e : Entry) : Type 0 where
   pub value : (ℕ → Bool) → Bool
   pub rests : (f h : ℕ → Bool) → AgreeBefore v f h → value f ≡ value h
@@ -76,6 +76,7 @@ pub record IsDefined (v : ℕ) (e : Entry) : Type 0 where
   pub says : (f : ℕ → Bool) → IsEntryTrue f v e → f v ≡ value f
   pub no_atom : atom_block e.kind ≡ None
   pub no_search : e.kind ≡ Search → ⊥
+  pub body : (lits : List Lit) → e.kind ≡ Body lits → (f : ℕ → Bool) → value f ≡ conjunction_true f lits
   pub named : IsEntryBefore (v + 1) e
 
 abbrev pub AreDefined : ℕ → List Entry → Type 0
@@ -256,6 +257,7 @@ all_of_defined v lits some b = record {
   says = λ f t. all_of_says f v lits t;
   no_atom = refl;
   no_search = λ e. absurd (cc);
+  body = λ other e. absurd (cc);
   named = record { clauses = conjunction_before v lits some b; kind = tt };
 }
 
@@ -267,6 +269,7 @@ body_defined v lits some b = record {
   says = λ f t. body_says f v lits t;
   no_atom = refl;
   no_search = λ e. absurd (cc);
+  body = λ other e f. let same : lits ≡ other = cc in ap (conjunction_true f) same;
   named = record { clauses = conjunction_before v lits some b; kind = lits_more v (v + 1) lits (omega arith) b };
 }
 
@@ -278,6 +281,7 @@ any_of_defined v lits some b = record {
   says = λ f t. any_of_says f v lits t;
   no_atom = refl;
   no_search = λ e. absurd (cc);
+  body = λ other e. absurd (cc);
   named = record { clauses = disjunction_before v lits some b; kind = tt };
 }
 
@@ -302,6 +306,7 @@ reaches_defined v terms bound b = record {
   says = λ f t. reaches_says f v terms bound t;
   no_atom = refl;
   no_search = λ e. absurd (cc);
+  body = λ other e. absurd (cc);
   named = record { clauses = tt; kind = terms_more v (v + 1) terms (omega arith) b };
 }
 
@@ -320,6 +325,7 @@ truth_defined v some = record {
   says = λ f t. truth_says f v t.clauses;
   no_atom = refl;
   no_search = λ e. absurd (cc);
+  body = λ other e. absurd (cc);
   named = record { clauses = ((record { some = some; below = omega arith }, tt), tt); kind = tt };
 }
   where

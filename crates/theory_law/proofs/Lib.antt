@@ -19,3 +19,7 @@ pub mod Wholes
 pub mod Truths
 pub mod Agreeing
 pub mod Appended
+pub mod PlainLemmas
+pub mod Defining
+pub mod Standing
+pub mod Excluding

@@ -22,7 +22,7 @@ use Rattle.theory_build.specs.Groups.{groups_piece}
 use Rattle.theory_build.specs.Bodies.{lits_of, rule_bodies, bodies_from, body_lit, body_entries}
 use Rattle.theory_build.specs.Atoms.{forces, allows, forbids, bodies_where, joined, supports as supports_at, forcing, atom_entry, atom_entries, constraint_clauses}
 use Rattle.theory_build.specs.Completion.{kinds_of, clauses_of}
-use Rattle.theory_law.specs.Whole.{AreOver, IsKindOver, IsWhole}
+use Rattle.theory_model.specs.Whole.{AreOver, IsKindOver, IsWhole}
 use Rattle.theory_law.proofs.Membership.{In}
 use Rattle.theory_law.proofs.Places.{place_of}
 use Rattle.theory_law.proofs.Entries.{IsBefore, AreBefore, AreTermsBefore, IsKindBefore, IsEntryBefore, AreDefined, before_more, before_from_in, ascending_before, clauses_more, kind_more, clauses_append, pairs_before}
@@ -35,7 +35,7 @@ use Rattle.theory_law.proofs.Programs.{entries, HasClauses}
 
 -- ---- over the first n variables, and before n + 1
 
-over_from_before : (n : ℕ) (lits : List Lit) → AreBefore (n + 1) lits → AreOver n lits
+pub over_from_before : (n : ℕ) (lits : List Lit) → AreBefore (n + 1) lits → AreOver n lits
 over_from_before n lits b = All-from_recursion (λ (l : Lit). IsNumberOf n l.var.0) lits (go lits b)
   where
     go : (ls : List Lit) → AreBefore (n + 1) ls → AllByRecursion (λ (l : Lit). IsNumberOf n l.var.0) ls

@@ -5,7 +5,7 @@ use Rattle.theory_form.specs.Theories.{TheoryView, IsTheory}
 use Rattle.ground_form.specs.Programs.{Parts}
 use Rattle.ground_form.specs.Ranges.{IsInRange}
 use Rattle.theory_build.specs.Completion.{HasBase}
-use Rattle.theory_law.specs.Whole.{AreOver, IsWhole}
+use Rattle.theory_model.specs.Whole.{AreOver, IsWhole}
 
 -- The program may stand behind the theory, with these literals joined to its inputs: the theory begins with a program's own
 -- theory, it names its own variables alone, and the literals are over them.

@@ -1,3 +1,5 @@
 pub mod Cuts
-pub mod Whole
 pub mod Appending
+pub mod Standing
+pub mod Growth
+pub mod Excluding

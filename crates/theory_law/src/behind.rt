@@ -1,15 +1,15 @@
 // The laws of programs that stand behind a theory.
-ghost use Rattle.std.specs.Prelude.{◌≡◌, ℕ, Bool, List, length};
+ghost use Rattle.std.specs.Prelude.{◌≡◌, ℕ, Bool, List, IsTrue, length};
 ghost use Rattle.ground_form.specs.Acyclic.{HasOnlyAtomHeads, IsAcyclic};
 ghost use Rattle.ground_form.specs.AnswerSets.{IsAnswerSetWith};
 ghost use Rattle.ground_form.specs.Programs.{Parts};
-ghost use Rattle.ground_form.specs.Ranges.{IsInRange};
+ghost use Rattle.ground_form.specs.Ranges.{IsInRange, IsNumberOf};
 ghost use Rattle.theory_build.specs.Completion.{HasBase, base_theory, with_program};
 ghost use Rattle.theory_form.specs.Theories.{TheoryView};
 ghost use Rattle.theory_form.specs.declared.literals.Lit.{Lit};
 ghost use Rattle.theory_law.specs.Appending.{CanStandBehind};
 ghost use Rattle.theory_law.specs.Cuts.{AgreeOn, cut, facts_of};
-ghost use Rattle.theory_law.specs.Whole.{IsWhole};
+ghost use Rattle.theory_model.specs.Whole.{IsWhole};
 ghost use Rattle.theory_model.specs.Models.{IsModel};
 
 /// The models of a theory with a program behind it are the models of the theory, extended by the answer sets of the
@@ -48,6 +48,17 @@ pub fn acyclic_programs_follow()
     ensures says { (t : TheoryView) (g : Parts) (joins : List Lit) (f : ℕ → Bool) → CanStandBehind t g joins → IsAcyclic g → HasOnlyAtomHeads g →
         IsModel (with_program t g joins) f → (x : ℕ → Bool) → IsAnswerSetWith g (facts_of g joins f) x →
         (a : ℕ) → x a ≡ cut (length t.variables) g f a }
+{}
+
+/// An acyclic program whose rules are no choices and no constraints has exactly one answer set with facts among its atoms.
+///
+/// * `some`: it has one.
+/// * `one`: it has no other.
+pub fn acyclic_programs_have_one_answer_set()
+    ensures some { (g : Parts) (facts : ℕ → Bool) → IsInRange g → IsAcyclic g → HasOnlyAtomHeads g →
+        ((a : ℕ) → IsTrue (facts a) → IsNumberOf (length g.atoms) a) → (x : ℕ → Bool) × IsAnswerSetWith g facts x }
+    ensures one { (g : Parts) (facts x y : ℕ → Bool) → IsAcyclic g → HasOnlyAtomHeads g →
+        ((a : ℕ) → IsTrue (facts a) → IsNumberOf (length g.atoms) a) → IsAnswerSetWith g facts x → IsAnswerSetWith g facts y → x ≡ y }
 {}
 
 /// Behind a program's own theory a program can stand, and behind that another one.

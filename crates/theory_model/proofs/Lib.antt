@@ -1,1 +1,3 @@
 pub mod HintLemmas
+pub mod GrowthLemmas
+pub mod PlaceLemmas

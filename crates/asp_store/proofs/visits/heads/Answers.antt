@@ -4,7 +4,7 @@ use Rattle.asp_trail.specs.declared.Entry.{Entry}
 use Rattle.asp_trail.specs.declared.Why.TheVariants.{Decision}
 use Rattle.asp_store.proofs.ExamineLemmas.{any_lit}
 use Rattle.asp_store.proofs.LevelLemmas.{Moved-trans}
-use Rattle.asp_store.proofs.HeadLemmas.{IsWatched-visited, AllSettled-watched, code-opposite, length-le-places}
+use Rattle.asp_store.proofs.HeadLemmas.{IsWatched-visited, AllSettled-watched, code-opposite, false_at_head, length-le-places}
 use Rattle.asp_store.proofs.visits.heads.Goals as goal
 
 any_entry : Entry
@@ -21,6 +21,14 @@ visit-requires-clause-within c =
     let places = c.heads.invariant.places in
     let wide : 2 * c.heads.trail.places ≤ length c.heads.lists = omega (arith, len, room, places) in
     rw is (code-opposite c.heads.lists c.heads.trail.places c.heads.top.head es _ c.entries.ensures.trail below wide)
+
+pub visit-requires-clause-is_false : goal.visit-requires-clause-is_false
+visit-requires-clause-is_false c =
+    let es = c.heads.trail.entries in
+    let value = c.entries.ensures.value in
+    let below : c.heads.top.head < length es = let h = c.heads-test.true in let q = ap length value ∙ length-reverse es in omega (arith, h, q) in
+    let is = rw c.entries-in-heads.ensures.value at c.opposite-l.ensures in
+    rw is (false_at_head c.heads.trail.places c.heads.top.head es _ c.entries.ensures.trail below)
 
 pub returns-in_err-found-clause-moved : goal.returns-in_err-found-clause-moved
 returns-in_err-found-clause-moved c =
@@ -65,6 +73,7 @@ heads-preserved c =
     let t = rw i.places at c.entries.ensures.trail in
     record {
       places = c.visit.ensures.places ∙ i.places;
+      next = c.visit.ensures.next ∙ i.next;
       moved = Moved-trans _ _ _ _ _ _ _ _ _ _ i.moved m;
       watched = IsWatched-visited _ _ _ _ _ n es _ _ _ c.heads.top.head c.heads.top.done _ t below i.settled i.watched (w _ _ _ i.watched) (visited (c.in_ok-found.was ∙ ap Ok c.in_default.is)) m.grew;
       settled = i.settled;

@@ -6,6 +6,7 @@ use Rattle.asp_store.proofs.visits.settle.Given as goal
 abbrev pub invariant-waiting : goal.invariant-waiting
 invariant-waiting l = record {
   places : l.trail.places ≡ l.initial.trail.places;
+  next : l.clauses.vacant_key ≡ l.initial.clauses.vacant_key;
   head : l.top.head ≡ l.initial.top.head;
   done_in : l.top.done ≤ length l.pending;
   moved : Moved l.initial.clauses.slots l.clauses.slots l.initial.lists l.lists l.initial.trail.places l.initial.trail.entries l.trail.entries;

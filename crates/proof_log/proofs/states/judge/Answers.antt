@@ -7,5 +7,4 @@ is_sum_clause-requires c = (subst IsStep c.in-Sum.is c.requires.step).consistent
 
 pub returns-in-Learn-clause-judged : goal.returns-in-Learn-clause-judged
 returns-in-Learn-clause-judged c =
-    let j = rw c.as_slice-added.ensures.value at c.judge_learned.ensures.judged in
-    rw (← c.state.view_is, c.in-Learn.is) (rw c.as_slice.ensures at j)
+    rw (← c.state.view_is, c.in-Learn.is) (rw c.as_slice.ensures at c.judge_learned.ensures.judged)

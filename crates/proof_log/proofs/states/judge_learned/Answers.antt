@@ -1,5 +1,6 @@
 use Rattle.std.proofs.Common.{◌+◌, length}
 use Rattle.theory_form.specs.Hints.{FollowsByHints}
+use Rattle.proof_log.specs.Added.{slots_of}
 use Rattle.proof_log.specs.States.{clause_among}
 use Rattle.proof_log.specs.Valid.{AreClauses}
 use Rattle.proof_log.specs.Causes.{Asks, Passes}
@@ -9,7 +10,7 @@ use Rattle.proof_log.proofs.states.judge_learned.Goals as goal
 
 pub returns-clause-judged : goal.returns-clause-judged
 returns-clause-judged c =
-    let look = clause_among c.args.theory.now c.args.added.now in
+    let look = clause_among c.args.theory.now (slots_of c.args.added.now) in
     let places = length c.args.theory.now.variables + 1 in
     let hints = c.args.hints.now in
     let exact = rw c.lits.ensures.literals at c.follows_by_hints-follows.ensures.exact in

@@ -1,5 +1,6 @@
 use Rattle.std.proofs.Common.{◌≡◌, take}
-use Rattle.small_front.specs.Files.{AreRead, bytes_of}
+use Rattle.ap_base.specs.Readings.{bytes_of}
+use Rattle.small_front.specs.Files.{AreRead}
 use Rattle.small_front.proofs.files.read_files.Given as goal
 
 abbrev pub invariant-loop-file : goal.invariant-loop-file

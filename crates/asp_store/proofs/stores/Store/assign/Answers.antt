@@ -14,4 +14,4 @@ pub invariant_of-self : goal.invariant_of-self
 invariant_of-self c =
     let f = c.self.inside in
     let r = subst (λ (s : State). IsImpliedBy s.clauses (assigned s) c.args.l c.args.why) (sym c.self.view_is) c.requires in
-    rw c.push.ensures (IsWatchStore-assigned f.clauses.slots f.lists f.pending.items f.trail.places f.trail.entries f.marks.items f.top _ c.args.l c.args.why r c.self.invariant)
+    rw c.push.ensures (IsWatchStore-assigned f.clauses.slots f.lists f.empties.items f.pending.items f.trail.places f.trail.entries f.marks.items f.top _ c.args.l c.args.why r c.self.invariant)

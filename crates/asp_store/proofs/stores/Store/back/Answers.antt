@@ -12,8 +12,8 @@ invariant_of-self c =
     let low = c.if-k-len.true in
     let below : k < length f.marks.items = omega (arith, low, c.len.ensures, f.marks.ok.0) in
     rw (c.back.ensures, c.truncate.ensures.items, c.truncate.ensures.capacity)
-    (subst (λ m. IsWatchStore f.clauses.slots f.lists f.pending.items f.trail.places (back k f.trail.entries) (take k f.marks.items) m (vec_capacity f.marks)) (sym c.index.ensures)
-    (IsWatchStore-back f.clauses.slots f.lists f.pending.items f.trail.places f.trail.entries f.marks.items f.top (vec_capacity f.marks) k c.index.result.now below c.self.invariant))
+    (subst (λ m. IsWatchStore f.clauses.slots f.lists f.empties.items f.pending.items f.trail.places (back k f.trail.entries) (take k f.marks.items) m (vec_capacity f.marks)) (sym c.index.ensures)
+    (IsWatchStore-back f.clauses.slots f.lists f.empties.items f.pending.items f.trail.places f.trail.entries f.marks.items f.top (vec_capacity f.marks) k c.index.result.now below c.self.invariant))
 
 pub returns-else-k-len : goal.returns-else-k-len
 returns-else-k-len c =

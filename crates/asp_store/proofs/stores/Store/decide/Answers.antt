@@ -20,4 +20,4 @@ invariant_of-self c =
     let f = c.self.inside in
     let free = subst (λ (s : State). IsFreeIn (assigned s) c.args.l) (sym c.self.view_is) c.requires.free in
     rw (c.push.ensures, c.push_reserved.ensures.items, c.push_reserved.ensures.capacity)
-    (IsWatchStore-decided f.clauses.slots f.lists f.pending.items f.trail.places f.trail.entries f.marks.items f.top _ c.args.l free c.self.invariant)
+    (IsWatchStore-decided f.clauses.slots f.lists f.empties.items f.pending.items f.trail.places f.trail.entries f.marks.items f.top _ c.args.l free c.self.invariant)

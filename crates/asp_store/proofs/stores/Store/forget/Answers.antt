@@ -8,8 +8,8 @@ invariant_of-self c =
     let f = c.self.inside in
     let u = c.remove-kept.ensures.updates in
     let none = none_from_test _ _ c.if-is_reason.false c.is_reason.ensures in
-    IsWatchStore-removes f.clauses.slots _ f.lists f.pending.items f.trail.places f.trail.entries f.marks.items f.top _ c.args.id.0 u.changed u.others
-    (rw c.entries.ensures.value at none) c.self.invariant
+    IsWatchStore-removes f.clauses.slots _ f.lists f.empties.items f.pending.items f.trail.places f.trail.entries f.marks.items f.top _ c.args.id.0 u.changed u.others
+    (rw (← c.self.view_is) at none) c.self.invariant
 
 pub returns-clause-gone : goal.returns-clause-gone
 returns-clause-gone c _ =
