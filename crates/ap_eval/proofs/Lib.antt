@@ -9,3 +9,4 @@ pub mod LevelLemmas
 pub mod AcyclicLemmas
 pub mod LooksLemmas
 pub mod DecisionLemmas
+pub mod OrderLemmas

@@ -1,6 +1,6 @@
-//! The one answer set of an acyclic ground program.
-ghost use Rattle.std.specs.Prelude.{◌≡◌, ℕ, ◌<◌, Bool, true, [], length, All, Contains, IfOk, OnOk, slice_set, if◌then◌else◌};
-ghost use Rattle.std.specs.List.{list_any};
+//! Acyclic ground programs, and the one answer set of such a program.
+ghost use Rattle.std.specs.Prelude.{◌≡◌, ◌↔◌, ℕ, ◌<◌, Bool, true, [], length, All, Contains, IsTrue, IfOk, OnOk, slice_set, if◌then◌else◌};
+ghost use Rattle.std.specs.List.{list_all, list_any};
 ghost use Rattle.definite.specs.Rules.{marked};
 ghost use Rattle.ground_form.specs.Acyclic.{IsAcyclic, HasOnlyAtomHeads};
 ghost use Rattle.ground_form.specs.AnswerSets.{IsAnswerSetWith};
@@ -95,19 +95,39 @@ fn decide_all(g: &GroundProgram, bodies: &[Items<BodyId>], order: &[usize], mark
 }
 
 /// What the facts lead to, where the program is acyclic.
-pub fn model(alloc: Global, g: &GroundProgram, facts: &AtomSet) -> Result<AtomSet, AllocError>
+pub(crate) fn model(
+    alloc: Global,
+    g: &GroundProgram,
+    facts: &AtomSet,
+) -> Result<AtomSet, AllocError>
     requires { All (λ (id : Id). IsNumberOf (length g.now.atoms) id.0) facts.now }
     ensures { IfOk result (λ x. IsAcyclic g.now → words.IsSupported g.now (has facts.now) (has x)) }
 {
-    let order = order(alloc, g)?;
+    let found = order(alloc, g)?;
     let bodies = bodies_by_atom(alloc, g)?;
     let mut marks = marks_of(alloc, bodies.len(), facts.ids())?;
-    decide_all(g, &bodies, order.as_slice(), &mut marks);
+    decide_all(g, &bodies, found.order.as_slice(), &mut marks);
     members(alloc, marks.as_slice())
 }
 
+/// Whether the program is acyclic: its atoms have levels such that the head of each rule has a level above those of all atoms
+/// that its body and the groups of its body look at. Its one error is want of memory.
+pub fn is_acyclic(alloc: Global, g: &GroundProgram) -> Result<bool, AllocError>
+    ensures { IfOk result (λ answer. IsTrue answer ↔ IsAcyclic g.now) }
+{
+    let _ = g.atoms(); // the numbers of the program are in range
+    let found = order(alloc, g)?;
+    Ok(all_marked(found.marks.as_slice()))
+}
+
+fn all_marked(marks: &[bool]) -> bool
+    ensures { result ≡ list_all (λ mark. mark) marks.now }
+{
+    marks.iter().all(|mark| *mark)
+}
+
 /// The answer set of an acyclic program with these inputs as facts: there is exactly one. Each rule has to be for an atom:
-/// the program has no choice and no constraint. Its one error is want of memory.
+/// the program has no choice and no constraint. `is_acyclic` tells whether a program is acyclic. Its one error is want of memory.
 pub fn acyclic_model(
     alloc: Global,
     g: &GroundProgram,

@@ -1,44 +1,18 @@
 //! Answer sets of programs without variables.
 #![tactic(auto)]
 
-ghost use Rattle.std.specs.Prelude.{◌↔◌, IfOk, IsTrue};
-ghost use Rattle.ap_eval.specs.AtomSets.{has};
-ghost use Rattle.ap_eval.specs.AnswerSets.{IsAnswerSet};
-
 mod acyclic;
 mod answer;
-mod derive;
-#[cfg(test)]
-mod ground_tests;
 mod looks;
 mod membership;
-mod model;
 mod reduction;
+mod small;
 mod tables;
 #[cfg(test)]
 mod tests;
 mod truth;
 
-use crate::derive::is_founded;
-use crate::model::is_model;
-pub use acyclic::acyclic_model;
+pub use acyclic::{acyclic_model, is_acyclic};
 pub use answer::is_answer_set;
-use ap_syntax::Text;
-use ap_syntax::small::Program;
-use std::alloc::{AllocError, Global};
+pub use small::small_answer_set;
 pub use truth::body_true;
-
-/// Whether the set of these atoms is an answer set of the program (Gelfond and Lifschitz 1988): it is the least set
-/// that is closed under its reduct, and no constraint's body is true in it. A choice rule lets each of its atoms be in
-/// the set or not. The order of the atoms, and how often each stands in the list, do not matter. Preference statements
-/// are not looked at.
-pub fn small_answer_set(alloc: Global, p: &Program, x: &[Text]) -> Result<bool, AllocError>
-    ensures { IfOk result (λ answer. IsTrue answer ↔ IsAnswerSet p.now (has x.now)) }
-{
-    let statements = p.statements.as_slice();
-    if is_model(statements, x) {
-        is_founded(alloc, statements, x)
-    } else {
-        Ok(false)
-    }
-}

@@ -1,7 +1,8 @@
 //! An order of the atoms of a ground program in which each stands behind those that its rules look at.
-ghost use Rattle.std.specs.Prelude.{◌≡◌, ℕ, Bool, ◌+◌, ◌<◌, ◌&&◌, List, [], ◌∷◌, length, slice_index_or, All, IfOk, IfSome, OnOk};
+ghost use Rattle.std.specs.Prelude.{◌≡◌, ◌↔◌, ℕ, Bool, ◌+◌, ◌<◌, ◌&&◌, List, [], ◌∷◌, length, slice_index_or, All, Contains, IsTrue, IfOk, IfSome, OnOk};
 ghost use Rattle.std.specs.List.{list_all};
 ghost use Rattle.std.specs.Option.{option_copied};
+ghost use Rattle.definite.specs.Rules.{marked};
 ghost use Rattle.definite.specs.declared.Rule.{Rule as RuleSpec};
 ghost use Rattle.ground_form.specs.Ranges.{IsHeadOf, IsNumberOf};
 ghost use Rattle.ground_form.specs.declared.rules.GroundRule.{GroundRule as Ground};
@@ -152,12 +153,14 @@ fn looks(alloc: Global, g: &GroundProgram) -> Result<Vec<Rule>, AllocError>
     Ok(looks)
 }
 
-/// The atoms, and 0, in an order in which each stands behind those that its rules look at. In an acyclic program it has
-/// all atoms.
-pub fn order(alloc: Global, g: &GroundProgram) -> Result<Items<usize>, AllocError>
-    ensures { IfOk result (λ order. words.IsOrder g.now order) }
+/// The atoms, and 0, in an order in which each stands behind those that its rules look at, and marks of those that stand in it. In
+/// an acyclic program it has all atoms.
+pub fn order(alloc: Global, g: &GroundProgram) -> Result<Derived, AllocError>
+    ensures order { IfOk result (λ found. words.IsOrder g.now found.order) }
+    ensures marks { IfOk result (λ found. (a : ℕ) → IsTrue (marked found.marks a) ↔ Contains found.order a) }
+    ensures size { IfOk result (λ found. length found.marks ≡ length g.now.atoms + 1) }
 {
     let looks = looks(alloc, g)?;
-    let Derived { marks: _, order } = least(alloc, &looks, g.atoms().len() + 1)?;
-    Ok(order)
+    let found = least(alloc, &looks, g.atoms().len() + 1)?;
+    Ok(found)
 }

@@ -14,7 +14,7 @@ pub returns : goal.returns
 returns c =
     let g = c.args.g.now in
     let ids : List AtomId = c.args.facts.now in
-    let order = c.in_ok-order.order in
+    let order = c.in_ok-found.found.order in
     let marks = c.decide_all.new.marks in
     let facts : marked c.in_ok-marks.marks ≡ has ids = fun_ext (λ a. c.in_ok-marks.ensures.same a ∙ ap (λ xs. has xs a) c.ids.ensures.value) in
     let decided = subst (λ (s : ℕ → Bool). AreDecided g s order marks) facts (subst (λ (xs : List ℕ). AreDecided g (marked c.in_ok-marks.marks) xs marks) c.as_slice.ensures c.decide_all.ensures) in
@@ -23,5 +23,5 @@ returns c =
     (λ (x : List AtomId). IsAcyclic g → IsSupported g (has ids) (has x))
     (λ x same acyclic.
     subst (IsSupported g (has ids)) (sym (fun_ext (λ a. same a ∙ ap (λ ms. marked ms a) c.as_slice-2.ensures)))
-    (decided_supported g ids order c.in_ok-bodies.bodies.items marks c.requires c.in_ok-order.ensures c.in_ok-bodies.ensures acyclic decided))
+    (decided_supported g ids order c.in_ok-bodies.bodies.items marks c.requires c.in_ok-found.ensures.order c.in_ok-bodies.ensures acyclic decided))
     c.members.ensures

@@ -10,9 +10,15 @@ least-requires c =
     subst (λ atoms. All (IsRuleOf (length atoms + 1)) c.deref.result.now) (sym c.atoms.ensures.value)
     (subst (All (IsRuleOf (length c.args.g.now.atoms + 1))) (sym c.deref.ensures.value) (looks_range c.args.g.now c.atoms.ensures.in_range c.in_ok-looks.looks.items c.in_ok-looks.ensures))
 
-pub returns : goal.returns
-returns c =
+pub returns-clause-order : goal.returns-clause-order
+returns-clause-order c =
     let g = c.args.g.now in
-    let derived = subst (λ atoms. IsDerived c.deref.result.now (length atoms + 1) c.in_ok-order.field-0) c.atoms.ensures.value c.in_ok-order.ensures in
-    let of_looks = subst (λ looks. IsDerived looks (length g.atoms + 1) c.in_ok-order.field-0) c.deref.ensures.value derived in
-    order_whole g c.atoms.ensures.in_range c.in_ok-looks.looks.items c.in_ok-looks.ensures c.in_ok-order.field-0 of_looks
+    let derived = subst (λ atoms. IsDerived c.deref.result.now (length atoms + 1) c.in_ok-found.found) c.atoms.ensures.value c.in_ok-found.ensures in
+    let of_looks = subst (λ looks. IsDerived looks (length g.atoms + 1) c.in_ok-found.found) c.deref.ensures.value derived in
+    order_whole g c.atoms.ensures.in_range c.in_ok-looks.looks.items c.in_ok-looks.ensures c.in_ok-found.found of_looks
+
+pub returns-clause-marks : goal.returns-clause-marks
+returns-clause-marks c = c.in_ok-found.ensures.same
+
+pub returns-clause-size : goal.returns-clause-size
+returns-clause-size c = c.in_ok-found.ensures.size ∙ ap (λ atoms. length atoms + 1) c.atoms.ensures.value
