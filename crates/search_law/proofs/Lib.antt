@@ -1,0 +1,5 @@
+pub mod ValueLemmas
+mod LoopLemmas
+mod SumLemmas
+mod CountLemmas
+mod FewLemmas
