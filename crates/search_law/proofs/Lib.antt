@@ -1,5 +1,5 @@
 pub mod ValueLemmas
 mod LoopLemmas
-mod SumLemmas
+pub mod SumLemmas
 mod CountLemmas
 mod FewLemmas
