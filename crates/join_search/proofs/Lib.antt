@@ -1,0 +1,4 @@
+pub mod MatchLemmas
+pub mod PatternMatches
+pub mod Grown
+pub mod Evaluated
