@@ -4,7 +4,7 @@ use Rattle.std.specs.Prelude.{flat_map, slice_index_or}
 use Rattle.std.specs.Str.{bytes_eq}
 use Rattle.std.proofs.lemmas.List.{get_or_default}
 use Rattle.ap_term.specs.Arithmetic.{compute}
-use Rattle.ap_term.specs.Value.{Value, integer, constant, string, compound, Values, none, also, arguments_from}
+use Rattle.ap_term.specs.Value.{Value, integer, compound, Values, also, arguments_from}
 use Rattle.element_form.specs.Elements.{IsTarget, IsRanked, AreRanked, IsRankedIfThere, IsGroundOf, IsAtPlace, IsElementOf, IsGrounded}
 use Rattle.element_form.specs.Formulas.{atom_formula, neg_formula, and_formula, or_formula, IsFormulaTerm}
 use Rattle.element_form.specs.Ground.{Target, For, Ranked, Ground, Statement, key}

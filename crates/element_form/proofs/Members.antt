@@ -1,5 +1,5 @@
 -- The formulas of a statement, as a list.
-use Rattle.std.proofs.Common.{◌≡◌, List, [], ◌∷◌, Contains, sym, subst, ap, ⊎_elim}
+use Rattle.std.proofs.Common.{◌≡◌, [], Contains, sym, subst, ap, ⊎_elim}
 use Rattle.ap_term.specs.Value.{Value}
 use Rattle.element_form.specs.Ground.{Statement, Ground, Ranked, Target, For, Name, HasFormula}
 use Rattle.element_form.specs.Satisfied.{formula_to, formulas}

@@ -1,10 +1,10 @@
 -- What the shapes say of ground elements.
-use Rattle.std.proofs.Common.{◌≡◌, ℕ, ◌+◌, ◌<◌, pos, List, [], ◌∷◌, map, length, Contains, true, false, refl, sym, subst, ap, ◌∙◌, ⊎_elim, Option, Some, None, arith}
-use Rattle.std.specs.Prelude.{slice_index_or, All}
+use Rattle.std.proofs.Common.{◌≡◌, ℕ, ◌<◌, pos, List, [], ◌∷◌, map, length, Contains, true, false, refl, sym, subst, ap, ◌∙◌, ⊎_elim, Option, Some, None, arith}
+use Rattle.std.specs.Prelude.{All}
 use Rattle.std.proofs.lemmas.List.Elements.{All-contains}
 use Rattle.ap_term.specs.Value.{Value, integer, constant, none, arguments_from}
-use Rattle.element_form.specs.Elements.{IsTarget, IsRanked, AreRanked, IsRankedIfThere, IsWeighed, AreWeighedIf, is_weighed, IsGroundOf, IsAtPlace, IsElementOf, IsGrounded}
-use Rattle.element_form.specs.Ground.{Target, For, Name, Ranked, Ground, Statement, IsGiven, HasName}
+use Rattle.element_form.specs.Elements.{IsTarget, AreRanked, IsRankedIfThere, IsWeighed, AreWeighedIf, is_weighed, IsGroundOf, IsAtPlace, IsElementOf}
+use Rattle.element_form.specs.Ground.{Target, For, Name, Ranked, Ground, IsGiven}
 use Rattle.element_form.specs.Preferences.{Wanted, Satisfy, Follow, Rank, Element, Preference, element_variables}
 use Rattle.element_form.specs.Shapes.{IsFormula, AreFormulas, IsFormulaIfThere, HasFormulas, IsOneName, HasNoWeights}
 use Rattle.rule_form.specs.Trees.{Terms, nothing}

@@ -11,7 +11,7 @@ use Rattle.rule_form.proofs.Rules.{same_decides, same_itself}
 use Rattle.rule_form.proofs.Totals.{Apart}
 use Rattle.rule_form.proofs.Unfolds.{here, there, first_or_rest, nothing_in}
 use Rattle.element_form.specs.Ground.{Statement}
-use Rattle.element_form.specs.States.{element_atoms, IsStateOf, net_atoms, number_of, digits, at_place, is_net_of, is_state_of, has_bit_of, is_net, is_state, has_bit, state_of}
+use Rattle.element_form.specs.States.{element_atoms, IsStateOf, net_atoms, number_of, digits, at_place, is_net_of, is_state_of, has_bit_of, is_net, has_bit, state_of}
 use Rattle.element_form.specs.Satisfied.{same_value}
 use Rattle.element_form.proofs.InOrder.{apart_in_order}
 

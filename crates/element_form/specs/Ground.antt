@@ -1,6 +1,6 @@
 -- Preference statements with their ground elements. All is given by its value: a formula by its term, a statement by its name as a
 -- constant.
-use Rattle.std.specs.Prelude.{◌≡◌, ℕ, ◌+◌, ◌<◌, ◌==◌, ◌-◌, pos, Bool, List, [], ◌∷◌, ◌++◌, length, slice_index_or, take, drop, Contains, Option, Some, None, codes, not, if◌then◌else◌}
+use Rattle.std.specs.Prelude.{◌≡◌, ℕ, ◌+◌, ◌<◌, ◌==◌, ◌-◌, pos, Bool, List, [], ◌∷◌, length, slice_index_or, take, drop, Contains, Option, Some, None, not}
 use Rattle.std.specs.List.{prefix_len}
 use Rattle.std.specs.Str.{bytes_eq}
 use Rattle.ap_term.specs.Value.{Value, integer, constant, compound, Values, none, also}

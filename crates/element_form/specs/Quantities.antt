@@ -1,5 +1,5 @@
 -- What is counted of the elements of a program's statements: how many ground elements there are, and how deep values of their terms are.
-use Rattle.std.specs.Prelude.{◌≡◌, ◌<◌, ℕ, false, List, [], ◌∷◌, ◌++◌, map, flat_map, slice_get, Contains, Option, Some, None, IsTrue}
+use Rattle.std.specs.Prelude.{◌≡◌, ◌<◌, ℕ, false, List, [], ◌++◌, map, flat_map, slice_get, Contains, Option, Some, None, IsTrue}
 use Rattle.ap_term.specs.Value.{Value, depth}
 use Rattle.element_form.specs.Elements.{IsElementOf}
 use Rattle.element_form.specs.Ground.{Ground}

@@ -1,5 +1,4 @@
 -- What is asked of the variables of an element, so that its ground elements are given by their places and values.
-use Rattle.std.specs.Prelude.{List}
 use Rattle.element_form.specs.Preferences.{Element}
 use Rattle.element_form.specs.Shapes.{OfElement}
 use Rattle.rule_form.specs.Trees.{Term, Variable, Anything, Fixed, Compound, Operation, Interval, Terms, nothing, more}

@@ -5,7 +5,7 @@ use Rattle.std.specs.List.{list_any}
 use Rattle.std.specs.declared.cmp.Ordering.{Ordering}
 use Rattle.std.specs.declared.cmp.Ordering.TheVariants.{Less, Equal, Greater}
 use Rattle.ap_term.specs.Order.{value_cmp}
-use Rattle.ap_term.specs.Value.{Value, integer, constant, string, compound, Values}
+use Rattle.ap_term.specs.Value.{Value, integer, constant, string, compound}
 use Rattle.element_form.specs.Formulas.{atoms_of}
 use Rattle.element_form.specs.Ground.{Statement, Ground, Ranked, Target, For, Name, given_list}
 use Rattle.element_form.specs.Satisfied.{same_value}

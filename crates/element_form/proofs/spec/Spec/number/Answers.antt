@@ -1,6 +1,5 @@
-use Rattle.std.proofs.Common.{◌≡◌, ◌∙◌, ap, sym, subst, ℤ, Contains, to_z, of_z, w64, arith, slice_index_or}
+use Rattle.std.proofs.Common.{◌≡◌, ◌∙◌, sym, subst, ℤ, Contains, to_z, of_z, w64, arith, slice_index_or}
 use Rattle.std.proofs.lemmas.Int.{to_z-of_z}
-use Rattle.ap_term.specs.declared.shape.TermId.{TermId}
 use Rattle.element_form.proofs.spec.Spec.number.Goals as goal
 
 -- what is read is what stands at the place
