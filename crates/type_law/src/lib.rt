@@ -13,6 +13,7 @@ ghost use Rattle.element_form.specs.Readings.{read_preference};
 ghost use Rattle.element_form.specs.Safety.{IsNamed};
 ghost use Rattle.element_form.specs.Shapes.{AreWellShaped};
 ghost use Rattle.ap_syntax.specs.declared.preferences.Preference.{Preference};
+ghost use Rattle.ap_term.specs.Value.{Value};
 ghost use Rattle.pref_kinds.specs.declared.built_in.BuiltIn.{BuiltIn};
 ghost use Rattle.pref_kinds.specs.Kinds.{text_of};
 ghost use Rattle.pref_library.specs.Programs.{rules_of};
@@ -35,4 +36,10 @@ pub fn shapes_fit_programs()
     ensures { (setting : Setting) (p : Preference) (st : Statement) (kind : BuiltIn) → p.kind ≡ text_of kind → AreWellShaped p →
         ((e : Element) → Contains (read_preference p).elements e → IsNamed e) →
         IsGrounded (IsCertain setting) (read_preference p) st → Takes kind st }
+{}
+
+/// A type's program has at most one answer set with the facts of a statement and what it may ask.
+pub fn programs_have_one_answer_set()
+    ensures { (kind : BuiltIn) (st : Statement) (asked : Asked) (x y : AtomSet) → IsAnswerSet (rules_of kind) (IsFact st asked) x →
+        IsAnswerSet (rules_of kind) (IsFact st asked) y → (a : Value) → x a ≡ y a }
 {}
