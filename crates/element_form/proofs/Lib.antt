@@ -1,0 +1,14 @@
+pub mod Distinct
+pub mod Members
+pub mod Closure
+pub mod Testing
+pub mod GraphLaw
+pub mod GreaterLaw
+pub mod InOrder
+pub mod StateLaw
+pub mod Paths
+pub mod Keys
+pub mod TableLaw
+pub mod Weights
+pub mod ShapeLaw
+pub mod Examples

@@ -1,0 +1,17 @@
+pub mod Preferences
+pub mod Readings
+pub mod Ground
+pub mod Formulas
+pub mod Elements
+pub mod Shapes
+pub mod Safety
+pub mod Satisfied
+pub mod Degrees
+pub mod Closures
+pub mod Greater
+pub mod States
+pub mod Flips
+pub mod Facts
+pub mod Naming
+pub mod Quantities
+pub mod Specs

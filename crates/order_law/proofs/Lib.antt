@@ -1,0 +1,10 @@
+pub mod Orders
+pub mod PosetOrder
+pub mod LexicoOrder
+pub mod Words
+pub mod KindLaw
+pub mod SystemLaw
+pub mod Decide
+pub mod Exists
+pub mod Names
+pub mod Examples

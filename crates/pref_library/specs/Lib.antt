@@ -1,0 +1,10 @@
+pub mod Texts
+pub mod Subset
+pub mod Sums
+pub mod Aso
+pub mod Poset
+pub mod Compositions
+pub mod Cp
+pub mod Lexico
+pub mod Programs
+pub mod Rows
