@@ -1,0 +1,6 @@
+pub mod DraftLemmas
+pub mod StandLemmas
+pub mod PlaceLemmas
+pub mod MapLemmas
+pub mod TermLemmas
+pub mod ChainLemmas

@@ -1,0 +1,5 @@
+pub mod Drafts
+pub mod Stands
+pub mod Terms
+pub mod Chains
+pub mod Compiled
