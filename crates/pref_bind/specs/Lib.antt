@@ -1,0 +1,10 @@
+pub mod Named
+pub mod Naming
+pub mod Causes
+pub mod Before
+pub mod Cycles
+pub mod Bindings
+pub mod Stacks
+pub mod Tables
+pub mod Found
+pub mod Answers

@@ -1,0 +1,4 @@
+pub mod Intervals
+pub mod Forms
+pub mod Shapes
+pub mod Answers
