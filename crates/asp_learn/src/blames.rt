@@ -40,13 +40,22 @@ pub struct Tracing {
     pub lits: Vec<Lit>,
 }
 
-/// Blames a fault on the decisions from which it comes, by resolution with the reasons of all implied entries. Only
-/// memory can run out.
-pub fn blame(alloc: Global, s: &Store, fault: Fault) -> Result<Blamed, AllocError>
-    requires { CanBlame s.now fault }
+/// Blames a fault on the decisions from which it comes, by resolution with the reasons of all implied entries on the way.
+/// Every variable of the store has a clear bit in `marks`, which are left as they were, whatever the answer. Only memory
+/// can run out.
+pub fn blame(
+    alloc: Global,
+    s: &Store,
+    fault: Fault,
+    marks: &mut Marks,
+) -> Result<Blamed, AllocError>
+    requires can { CanBlame s.now fault }
+    requires clear { AreClear s.now marks.old }
     ensures well_formed { IfOk result (λ b. IsWellFormed b.clause) }
     ensures follows { IfOk result (λ b. FollowsByHints (clause_at s.now.clauses) s.now.places b.clause b.hints) }
     ensures blamed { IfOk result (λ b. All (IsBlamed s.now.entries fault) b.clause) }
+    ensures above_0 { IfOk result (λ b. All (λ l. IsAbove0 s.now.entries l ⊎ IsOfFault fault l) b.clause) }
+    ensures marks { marks.new ≡ marks.old }
 {
     let Tracing { found, lits } = trace_fault(alloc, s, fault)?;
     let Findings {
