@@ -1,13 +1,15 @@
 -- The steps of the way down.
-use Rattle.std.proofs.Common.{◌≡◌, ℕ, zero, suc, ◌<◌, ◌≤◌, ◌≢◌, ◌⊎◌, inl, inr, ◌++◌, Bool, true, false, not, List, [], ◌∷◌, cond, ◌==◌, length, Option, Some, None, get_or, eq-eqb, refl, ap, sym, ◌∙◌, subst, arith, length-set, append_assoc}
-use Rattle.std.specs.Prelude.{Any}
+use Rattle.std.proofs.Common.{◌≡◌, ℕ, zero, suc, ◌+◌, ◌<◌, ◌≤◌, ◌≢◌, ◌⊎◌, inl, inr, ◌++◌, Bool, true, false, not, List, [], ◌∷◌, cond, ◌==◌, length, Option, Some, None, get_or, set, reverse, eq-eqb, refl, ap, sym, ◌∙◌, subst, arith, length-set, append_assoc}
+use Rattle.std.specs.Prelude.{Any, count_by}
 use Rattle.std.specs.List.{All}
 use Rattle.std.proofs.lemmas.Bool.{cases_eq, cases_lt}
-use Rattle.std.proofs.lemmas.List.{get_or-set_same, get_or-set_other, get_or_default}
+use Rattle.std.proofs.lemmas.List.{get_or-set_same, get_or-set_other, get_or_default, reverse-append}
+use Rattle.std.proofs.lemmas.List.Sums.{sum_by-set}
 use Rattle.std.proofs.lemmas.List.Elements.{All-contains, All-push, All-weaker, Contains-append_left, Contains-get_or}
 use Rattle.std.proofs.lemmas.List.Quantifiers.{Any-push}
 use Rattle.theory_form.specs.declared.literals.Lit.{Lit}
 use Rattle.theory_form.specs.declared.literals.ClauseId.{ClauseId}
+use Rattle.theory_form.specs.declared.literals.Var.{Var}
 use Rattle.theory_form.specs.Hints.{Follows, made_true}
 use Rattle.theory_form.specs.Truth.{value_of, IsFalseIn, IsUnitBy}
 use Rattle.asp_trail.specs.declared.Entry.{Entry}
@@ -16,14 +18,16 @@ use Rattle.asp_trail.specs.declared.Why.TheVariants.{Decision, Clause}
 use Rattle.asp_trail.specs.Trail.{values_of, why_in, level_of, level_after, IsTrail}
 use Rattle.asp_trail.proofs.TrailLemmas.{get_or-replicate_none, length-values_of, value_within}
 use Rattle.asp_store.specs.Store.{State, assigned, clause_at, HasReason, HasReasons, IsReason, IsStore}
+use Rattle.asp_learn.specs.declared.descents.Descent.{Descent}
 use Rattle.asp_learn.specs.declared.descents.Frame.{Frame}
 use Rattle.asp_learn.specs.Blames.{IsImplied}
 use Rattle.asp_learn.specs.Conflicts.{before, level_in, Implies, Mentions}
-use Rattle.asp_learn.specs.Descents.{rank, Brings, Descended, Explained, IsClosed, IsDecided, IsFrame, IsPath, IsReached, OnPath, Within}
+use Rattle.asp_learn.specs.Descents.{rank, Brings, Descended, Explained, IsAtRest, IsClosed, IsDecided, IsDescended, IsEntered, IsEnteredFor, IsFrame, IsPath, IsReached, OnPath, Within}
+use Rattle.asp_learn.specs.Marked.{has}
 use Rattle.asp_learn.proofs.GatherLemmas.{Any-append_left, Sees, sees_here, sees_kept, sees_other}
 use Rattle.asp_learn.proofs.LevelLemmas.{bool_cases, value_cases, before-same, before-other, other_from_value, value-other, value-same, level_in-other, level_in-same, why_in-same, why_in-other}
 use Rattle.asp_learn.proofs.FalseLemmas.{all_from_contains}
-use Rattle.asp_learn.proofs.MarkedLemmas.{not_true_false}
+use Rattle.asp_learn.proofs.MarkedLemmas.{has-push, not_true_false}
 use Rattle.asp_learn.proofs.WalkLemmas.{Follows-reason}
 
 -- a variable with a value has fewer entries before it than there are
@@ -318,6 +322,32 @@ module _ {s : State} {p : ℕ → Bool} {path : List Frame} {lits : List Lit} {h
     brings = brings_kept h.brings h.decided l;
   }
 
+-- what is met stays within closed sets
+
+pub within_entered : (s : State) (set p q : ℕ → Bool) (hints : List ClauseId) (v : ℕ) → Sees p q v → set v ≡ true → Within s set p hints → Within s set q hints
+within_entered s set p q hints v sees on h = record {
+  met = λ w at. elim (cases_eq w v) [
+    | inl here ↦ subst (λ x. set x ≡ true) (sym here) on
+    | inr other ↦ h.met w (sym (sees_other p q v w sees other) ∙ at)
+  ];
+  named = h.named;
+}
+
+pub within_left : (s : State) (set p : ℕ → Bool) (hints : List ClauseId) (w : ℕ) (id : ClauseId) (level : ℕ) → IsClosed s set → why_in s.entries w ≡ Some (Clause id, level) → p w ≡ true → Within s set p hints → Within s set p (hints ++ id ∷ [])
+within_left s set p hints w id level closed why met h = record {
+  met = h.met;
+  named = All-push (λ (k : ClauseId). (v : ℕ) → Mentions s k.0 v → set v ≡ true) hints id h.named (λ v m. elim (cases_eq v w) [
+    | inl here ↦ subst (λ x. set x ≡ true) (sym here) (h.met w met)
+    | inr other ↦ closed v w (reason_implies s w id level m.clause v why m.stored m.literal other) (h.met w met)
+  ]);
+}
+
+pub within_start : (s : State) (set p : ℕ → Bool) (hints : List ClauseId) → ((v : ℕ) → p v ≡ false) → hints ≡ [] → Within s set p hints
+within_start s set p hints none no_hint = rw no_hint (record {
+  met = λ v on. absurd (not_true_false (p v) on (none v));
+  named = λ k d within. absurd (omega arith);
+})
+
 -- The innermost frame.
 module _ {s : State} {p : ℕ → Bool} {f : Frame} {outer : List Frame} {lits : List Lit} {hints : List ClauseId} (h : Descended s p (f ∷ outer) lits hints) (c : List Lit) (at : clause_at s.clauses f.id.0 ≡ Some c) where
   frame : IsFrame s p h.done f
@@ -342,6 +372,24 @@ module _ {s : State} {p : ℕ → Bool} {f : Frame} {outer : List Frame} {lits :
       let same = same_clause r.clause r.stored in
       subst (λ xs. IsOlder s.places s.entries f.var.0 (get_or xs k d)) same (r.others k d (subst (λ xs. k < length xs) (sym same) within) (λ place.
       absurd (not_true_false (p f.var.0) frame.met (sym (ap p (ap (λ (l : Lit). l.var.0) (sym (ap (λ xs. get_or xs k d) same) ∙ (ap (λ i. get_or r.clause i d) place ∙ r.is d)) ∙ r.var)) ∙ off))))
+
+  -- all of it was met where what is behind its place was
+  pub all_met : ((k : ℕ) (d : Lit) → f.place ≤ k → k < length c → p (get_or c k d).var.0 ≡ true) → (k : ℕ) (d : Lit) → k < length c → p (get_or c k d).var.0 ≡ true
+  all_met behind k d within = elim (cases_lt k f.place) [
+    | inl before ↦ front_met k d before within
+    | inr after ↦ behind k d after within
+  ]
+
+  -- what is met next, and the key, stay within closed sets
+  pub frame_within : (set : ℕ → Bool) (ids : List ClauseId) (k : ℕ) (d : Lit) → k < length c → p (get_or c k d).var.0 ≡ false → IsClosed s set → Within s set p ids → set (get_or c k d).var.0 ≡ true
+  frame_within set ids k d within off closed h' =
+      let o = literal_older k d within off in
+      closed (get_or c k d).var.0 f.var.0
+      (reason_implies s f.var.0 f.id frame.level c (get_or c k d).var.0 frame.why at (k, get_or c k d, within, get_or_default c k (get_or c k d) d within, refl) o.other)
+      (h'.met f.var.0 frame.met)
+
+  pub left_within : (set : ℕ → Bool) (ids : List ClauseId) → IsClosed s set → Within s set p ids → Within s set p (ids ++ f.id ∷ [])
+  left_within set ids closed h' = within_left s set p ids f.var.0 f.id frame.level closed frame.why frame.met h'
 
   -- all of its reason was met: the reason is a hint
   pub left_frame : ((k : ℕ) (d : Lit) → k < length c → p (get_or c k d).var.0 ≡ true) → Descended s p outer lits (hints ++ f.id ∷ [])
@@ -390,7 +438,7 @@ module _ {s : State} {p : ℕ → Bool} {f : Frame} {outer : List Frame} {lits :
       }
 
   -- the path with the frame gone over up to a literal, under which this counts as met
-  pub frame_on : (q : ℕ → Bool) (k : ℕ) (d : Lit) → k < length c → Sees p q (get_or c k d).var.0 → p (get_or c k d).var.0 ≡ false → ((j : ℕ) (x : Lit) → f.place ≤ j → j < k → p (get_or c j x).var.0 ≡ true) → IsPath s q h.done (suc (rank s (get_or c k d).var.0)) (record { var = f.var; id = f.id; place = suc k } ∷ outer)
+  pub frame_on : (q : ℕ → Bool) (k : ℕ) (d : Lit) → k < length c → Sees p q (get_or c k d).var.0 → p (get_or c k d).var.0 ≡ false → ((j : ℕ) (x : Lit) → f.place ≤ j → j < k → p (get_or c j x).var.0 ≡ true) → IsPath s q h.done (suc (rank s (get_or c k d).var.0)) (record { var = f.var; id = f.id; place = k + 1 } ∷ outer)
   frame_on q k d within sees off skipped =
       let l : Lit = get_or c k d in
       let older = (literal_older k d within off).older in
@@ -418,31 +466,59 @@ module _ {s : State} {p : ℕ → Bool} {f : Frame} {outer : List Frame} {lits :
       | inr over ↦ skipped j x over before
     ]
 
--- what is met stays within closed sets
+-- by what a call did
 
-pub within_entered : (s : State) (set p q : ℕ → Bool) (hints : List ClauseId) (v : ℕ) → Sees p q v → set v ≡ true → Within s set p hints → Within s set q hints
-within_entered s set p q hints v sees on h = record {
-  met = λ w at. elim (cases_eq w v) [
-    | inl here ↦ subst (λ x. set x ≡ true) (sym here) on
-    | inr other ↦ h.met w (sym (sees_other p q v w sees other) ∙ at)
-  ];
-  named = h.named;
-}
+descended_at : {s : State} {p : ℕ → Bool} {path path' : List Frame} {lits lits' : List Lit} {hints hints' : List ClauseId} → path' ≡ path → lits' ≡ lits → hints' ≡ hints → Descended s p path lits hints → Descended s p path' lits' hints'
+descended_at same_path same_lits same_hints h = rw (same_path, same_lits, same_hints) h
 
-pub within_left : (s : State) (set p : ℕ → Bool) (hints : List ClauseId) (w : ℕ) (id : ClauseId) (level : ℕ) → IsClosed s set → why_in s.entries w ≡ Some (Clause id, level) → p w ≡ true → Within s set p hints → Within s set p (hints ++ id ∷ [])
-within_left s set p hints w id level closed why met h = record {
-  met = h.met;
-  named = All-push (λ (k : ClauseId). (v : ℕ) → Mentions s k.0 v → set v ≡ true) hints id h.named (λ v m. elim (cases_eq v w) [
-    | inl here ↦ subst (λ x. set x ≡ true) (sym here) (h.met w met)
-    | inr other ↦ closed v w (reason_implies s w id level m.clause v why m.stored m.literal other) (h.met w met)
-  ]);
-}
+pub seen_sees : (old new : List Var) (v : Var) → new ≡ old ++ v ∷ [] → Sees (has old) (has new) v.0
+seen_sees old new v is = record { at = λ w. subst (λ vars. has vars w ≡ cond (v.0 == w) true (has old w)) (sym is) (has-push old v w) }
 
-pub within_start : (s : State) (set p : ℕ → Bool) (hints : List ClauseId) → ((v : ℕ) → p v ≡ false) → hints ≡ [] → Within s set p hints
-within_start s set p hints none no_hint = rw no_hint (record {
-  met = λ v on. absurd (not_true_false (p v) on (none v));
-  named = λ k d within. absurd (omega arith);
-})
+reverse_push : (path : List Frame) (f : Frame) → reverse (path ++ f ∷ []) ≡ f ∷ reverse path
+reverse_push path f = reverse-append path (f ∷ [])
+
+-- the path and the literals after a variable was entered
+abbrev AfterEntry : Why → Lit → List Frame → List Lit → Descent → Type 0
+AfterEntry Decision l outer lits new = (reverse new.path.items ≡ outer) × (new.lits.items ≡ lits ++ l ∷ [])
+AfterEntry (Clause id) l outer lits new = (reverse new.path.items ≡ record { var = l.var; id = id; place = 0 } ∷ outer) × (new.lits.items ≡ lits)
+
+after_entry : (why : Why) (l : Lit) (outer : List Frame) (lits : List Lit) (old new : Descent) → IsEnteredFor why l old new → reverse old.path.items ≡ outer → old.lits.items ≡ lits → AfterEntry why l outer lits new
+after_entry Decision l outer lits old new x turn same = (ap reverse x.0 ∙ turn, x.1 ∙ ap (λ ls. ls ++ l ∷ []) same)
+after_entry (Clause id) l outer lits old new x turn same =
+    let f : Frame = record { var = l.var; id = id; place = 0 } in
+    (ap reverse x.0 ∙ (reverse_push old.path.items f ∙ ap (λ path. f ∷ path) turn), x.1 ∙ same)
+
+entered_for : (s : State) (seen : List Var) (path outer : List Frame) (lits : List Lit) (hints : List ClauseId) (l : Lit) (new : Descent) (h : Descended s (has seen) path lits hints) (why : Why) (level : ℕ) → why_in s.entries l.var.0 ≡ Some (why, level) → AfterEntry why l outer lits new → new.seen.items ≡ seen ++ l.var ∷ [] → new.hints.items ≡ hints → has seen l.var.0 ≡ false → IsFalseIn (assigned s) l → ((v : ℕ) → OnPath path v → OnPath outer v) → IsPath s (has new.seen.items) h.done (suc (rank s l.var.0)) outer → IsDescended s (reverse new.path.items) new
+entered_for s seen path outer lits hints l new h Decision level why x seen_is hints_is fresh falses same_path is_outer =
+    descended_at x.0 x.1 hints_is (entered_decided h (has new.seen.items) l (seen_sees seen new.seen.items l.var seen_is) fresh outer same_path is_outer level why falses)
+entered_for s seen path outer lits hints l new h (Clause id) level why x seen_is hints_is fresh falses same_path is_outer =
+    descended_at x.0 x.1 hints_is (entered_implied h (has new.seen.items) l (seen_sees seen new.seen.items l.var seen_is) fresh outer same_path is_outer id level why)
+
+-- from where no way is open
+pub entered_root : (s : State) (old new : Descent) (l : Lit) → IsAtRest s old → IsEntered s l old new → has old.seen.items l.var.0 ≡ false → IsFalseIn (assigned s) l → IsDescended s (reverse new.path.items) new
+entered_root s old new l h e fresh falses =
+    entered_for s old.seen.items [] [] old.lits.items old.hints.items l new h.descended e.why e.level e.why_is
+    (after_entry e.why l [] old.lits.items old new e.entered (ap reverse h.none) refl) e.seen e.hints fresh falses (λ v on. absurd on) tt
+
+-- from a frame, which goes on behind the literal
+pub entered_deeper : (s : State) (old mid new : Descent) (f : Frame) (c : List Lit) (k : ℕ) (d : Lit) → IsDescended s (f ∷ reverse old.path.items) old → clause_at s.clauses f.id.0 ≡ Some c → k < length c → mid.path.items ≡ old.path.items ++ record { var = f.var; id = f.id; place = k + 1 } ∷ [] → mid.seen.items ≡ old.seen.items → mid.lits.items ≡ old.lits.items → mid.hints.items ≡ old.hints.items → IsEntered s (get_or c k d) mid new → has old.seen.items (get_or c k d).var.0 ≡ false → ((j : ℕ) (x : Lit) → f.place ≤ j → j < k → has old.seen.items (get_or c j x).var.0 ≡ true) → IsDescended s (reverse new.path.items) new
+entered_deeper s old mid new f c k d h at within path_is seen_is lits_is hints_is e off skipped =
+    let l : Lit = get_or c k d in
+    let on : Frame = record { var = f.var; id = f.id; place = k + 1 } in
+    let outer : List Frame = reverse old.path.items in
+    let turn : reverse mid.path.items ≡ on ∷ outer = ap reverse path_is ∙ reverse_push old.path.items on in
+    let seen : new.seen.items ≡ old.seen.items ++ l.var ∷ [] = e.seen ∙ ap (λ vars. vars ++ l.var ∷ []) seen_is in
+    entered_for s old.seen.items (f ∷ outer) (on ∷ outer) old.lits.items old.hints.items l new h e.why e.level e.why_is
+    (after_entry e.why l (on ∷ outer) old.lits.items mid new e.entered turn lits_is) seen (e.hints ∙ hints_is) off (literal_older h c at k d within off).is_false
+    (λ v there. elim there [ inl here ↦ inl here | inr up ↦ inr up ])
+    (frame_on h c at (has new.seen.items) k d within (seen_sees old.seen.items new.seen.items l.var seen) off skipped)
+
+-- a variable that is not marked is one more that is counted
+pub count_set : (marks : List Bool) (v : ℕ) → v < length marks → get_or marks v false ≡ false → count_by not (set marks v true) + 1 ≡ count_by not marks
+count_set marks v within off =
+    let e = sum_by-set (λ b. cond (not b) 1 0) marks v true false within in
+    let q = ap (λ b. cond (not b) 1 0) off in
+    omega (arith, e, q)
 
 -- the end
 

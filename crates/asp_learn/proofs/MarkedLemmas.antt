@@ -109,3 +109,14 @@ module _ {s : State} {vars : List Var} {marks : List Bool} (h : OnlyMarked s var
 
 pub only_start : (s : State) (vars : List Var) (marks : List Bool) → vars ≡ [] → ((v : ℕ) → v < s.places → (v < length marks) × (marked marks v ≡ false)) → OnlyMarked s vars marks
 only_start s vars marks none clear = record { base = marks; clear = clear; marks = marked_start vars marks none }
+
+-- after a call that marks what it puts on the list
+pub only_kept : {s : State} {old new : List Var} {marks marks' : List Bool} → OnlyMarked s old marks → ((base : List Bool) → AreMarked old base marks → AreMarked new base marks') → OnlyMarked s new marks'
+only_kept h more = record { base = h.base; clear = h.clear; marks = more h.base h.marks }
+
+-- a variable that is marked stands in the list, and one that is not does not
+pub has_from_marked : {s : State} {vars : List Var} {marks : List Bool} → OnlyMarked s vars marks → (v : ℕ) → v < s.places → marked marks v ≡ true → has vars v ≡ true
+has_from_marked h v within on = sym (marked_is h v within) ∙ on
+
+pub none_from_unmarked : {s : State} {vars : List Var} {marks : List Bool} → OnlyMarked s vars marks → (v : ℕ) → v < s.places → marked marks v ≡ false → has vars v ≡ false
+none_from_unmarked h v within off = sym (marked_is h v within) ∙ off
