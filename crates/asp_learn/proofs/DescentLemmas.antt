@@ -181,9 +181,9 @@ path_least s p done least less (f ∷ outer) le h = let low = h.1 in (h.0, omega
 
 -- one hint more
 
-module _ {s : State} {done : ℕ → Bool} {lits : List Lit} {hints : List ClauseId} (h : Brings s done lits hints) (decided : All (IsDecided s) lits) where
-  pub brings_kept : (l : Lit) → Brings s done (lits ++ l ∷ []) hints
-  brings_kept l a rest len free falses k =
+module _ (s : State) (done : ℕ → Bool) (lits : List Lit) (decided : All (IsDecided s) lits) where
+  pub brings_kept : (hints : List ClauseId) (l : Lit) → Brings s done lits hints → Brings s done (lits ++ l ∷ []) hints
+  brings_kept hints l h a rest len free falses k =
       h a rest len free (all_from_contains (IsFalseIn a) lits (λ m has. All-contains (IsFalseIn a) (lits ++ l ∷ []) m falses (Contains-append_left lits (l ∷ []) m has))) k
 
   -- the value of a reached variable, where the done ones have theirs
@@ -199,40 +199,40 @@ module _ {s : State} {done : ℕ → Bool} {lits : List Lit} {hints : List Claus
     ]
   ]
 
-  pub brings_more : (w : ℕ) (id : ClauseId) (done' : ℕ → Bool) (r : ReasonOf s.clauses s.places s.entries w id.0) → Sees done done' w → done w ≡ false → ((k : ℕ) (d : Lit) → k < length r.clause → k ≢ r.place → IsReached done lits (get_or r.clause k d).var.0) → w < s.places → Brings s done' lits (hints ++ id ∷ [])
-  brings_more w id done' r sees waits reached within a rest len free falses k =
+  pub brings_more : (hints : List ClauseId) (w : ℕ) (id : ClauseId) (done' : ℕ → Bool) (r : ReasonOf s.clauses s.places s.entries w id.0) → Sees done done' w → done w ≡ false → ((k : ℕ) (d : Lit) → k < length r.clause → k ≢ r.place → IsReached done lits (get_or r.clause k d).var.0) → w < s.places → Brings s done lits hints → Brings s done' lits (hints ++ id ∷ [])
+  brings_more hints w id done' r sees waits reached within h a rest len free falses k =
       let look = clause_at s.clauses in
       let on' : (v : ℕ) → done v ≡ true → done' v ≡ true = λ v. sees_kept done done' w v sees in
       subst (λ ids. Follows look a ids) (sym (append_assoc hints (id ∷ []) rest)) (h a (id ∷ rest) len (λ v on. free v (on' v on)) falses (λ b blen on off.
-          let none : value_of b w ≡ None = off w waits ∙ free w (sees_here done done' w sees) in
-          let inside : w < length b = rw blen within in
-          Follows-reason look b id r.clause r.literal rest r.stored
-          (record {
-            place = r.place;
-            unit = record {
-              free = record { within = r.inside; holds = λ d. subst (λ (l : Lit). value_of b l.var.0 ≡ None) (sym (r.is d)) (subst (λ v. value_of b v ≡ None) (sym r.var) none) };
-              rest = λ j inside_j other. record {
-                within = inside_j;
-                holds = λ d. reached_value a b (get_or r.clause j d).var.0 (reached j d inside_j other) falses on off ∙ (r.others j d inside_j other).is_false;
-              };
-            };
-            lit_is = r.is;
-          })
-          (k (made_true b r.literal) (length-set b r.literal.var.0 (Some r.literal.yes) ∙ blen)
-          (λ v on_v. elim (cases_eq v w) [
-            | inl same ↦
-                let set_w : value_of (made_true b r.literal) w ≡ Some r.literal.yes = subst (λ x. value_of (made_true b r.literal) x ≡ Some r.literal.yes) r.var (get_or-set_same b r.literal.var.0 (Some r.literal.yes) None (subst (λ x. x < length b) (sym r.var) inside)) in
-                subst (λ x. value_of (made_true b r.literal) x ≡ value_of (assigned s) x) (sym same) (set_w ∙ sym r.holds)
-            | inr other ↦
-                get_or-set_other b r.literal.var.0 v (Some r.literal.yes) None (λ x. other (x ∙ r.var))
-                ∙ on v (sym (sees_other done done' w v sees other) ∙ on_v)
-          ])
-          (λ v off_v. elim (cases_eq v w) [
-            | inl same ↦ absurd (not_true_false (done' w) (sees_here done done' w sees) (subst (λ x. done' x ≡ false) same off_v))
-            | inr other ↦
-                get_or-set_other b r.literal.var.0 v (Some r.literal.yes) None (λ x. other (x ∙ r.var))
-                ∙ off v (sym (sees_other done done' w v sees other) ∙ off_v)
-          ]))))
+      let none : value_of b w ≡ None = off w waits ∙ free w (sees_here done done' w sees) in
+      let inside : w < length b = rw blen within in
+      Follows-reason look b id r.clause r.literal rest r.stored
+      (record {
+        place = r.place;
+        unit = record {
+          free = record { within = r.inside; holds = λ d. subst (λ (l : Lit). value_of b l.var.0 ≡ None) (sym (r.is d)) (subst (λ v. value_of b v ≡ None) (sym r.var) none) };
+          rest = λ j inside_j other. record {
+            within = inside_j;
+            holds = λ d. reached_value a b (get_or r.clause j d).var.0 (reached j d inside_j other) falses on off ∙ (r.others j d inside_j other).is_false;
+          };
+        };
+        lit_is = r.is;
+      })
+      (k (made_true b r.literal) (length-set b r.literal.var.0 (Some r.literal.yes) ∙ blen)
+      (λ v on_v. elim (cases_eq v w) [
+        | inl same ↦
+            let set_w : value_of (made_true b r.literal) w ≡ Some r.literal.yes = subst (λ x. value_of (made_true b r.literal) x ≡ Some r.literal.yes) r.var (get_or-set_same b r.literal.var.0 (Some r.literal.yes) None (subst (λ x. x < length b) (sym r.var) inside)) in
+            subst (λ x. value_of (made_true b r.literal) x ≡ value_of (assigned s) x) (sym same) (set_w ∙ sym r.holds)
+        | inr other ↦
+            get_or-set_other b r.literal.var.0 v (Some r.literal.yes) None (λ x. other (x ∙ r.var))
+            ∙ on v (sym (sees_other done done' w v sees other) ∙ on_v)
+      ])
+      (λ v off_v. elim (cases_eq v w) [
+        | inl same ↦ absurd (not_true_false (done' w) (sees_here done done' w sees) (subst (λ x. done' x ≡ false) same off_v))
+        | inr other ↦
+            get_or-set_other b r.literal.var.0 v (Some r.literal.yes) None (λ x. other (x ∙ r.var))
+            ∙ off v (sym (sees_other done done' w v sees other) ∙ off_v)
+      ]))))
 
 -- the way down begins and ends
 
@@ -319,7 +319,7 @@ module _ {s : State} {p : ℕ → Bool} {path : List Frame} {lits : List Lit} {h
     on_path = path_least s q h.done (suc (rank s l.var.0)) 0 outer (omega arith) is_outer;
     decided = All-push (IsDecided s) lits l h.decided (record { is_false = falses; level = level; why = why });
     lits_met = All-push (λ (m : Lit). q m.var.0 ≡ true) lits l (All-weaker (λ (m : Lit). p m.var.0 ≡ true) (λ (m : Lit). q m.var.0 ≡ true) (λ m on. kept_q m.var.0 on) lits h.lits_met) (sees_here p q l.var.0 sees);
-    brings = brings_kept h.brings h.decided l;
+    brings = brings_kept s h.done lits h.decided hints l h.brings;
   }
 
 -- what is met stays within closed sets
@@ -400,17 +400,17 @@ module _ {s : State} {p : ℕ → Bool} {f : Frame} {outer : List Frame} {lits :
       let sees : Sees h.done done' f.var.0 = record { at = λ v. refl } in
       let kept : (v : ℕ) → h.done v ≡ true → done' v ≡ true = λ v. sees_kept h.done done' f.var.0 v sees in
       let reached : (k : ℕ) (d : Lit) → k < length r.clause → k ≢ r.place → IsReached h.done lits (get_or r.clause k d).var.0 = λ k d within other.
-          let x = r.others k d within other in
-          elim (h.reached (get_or r.clause k d).var.0 (subst (λ xs. p (get_or xs k d).var.0 ≡ true) (sym same) (all k d (subst (λ xs. k < length xs) same within)))) [
-            | inl there ↦ there
-            | inr on_path ↦ elim on_path [
-              | inl here ↦ absurd (x.other (sym here))
-              | inr up ↦
-                  let above = path_rank s p h.done (suc (rank s f.var.0)) outer (get_or r.clause k d).var.0 h.on_path.2 up in
-                  let older = x.older in
-                  absurd (omega (arith, above, older))
-            ]
-          ] in
+      let x = r.others k d within other in
+      elim (h.reached (get_or r.clause k d).var.0 (subst (λ xs. p (get_or xs k d).var.0 ≡ true) (sym same) (all k d (subst (λ xs. k < length xs) same within)))) [
+        | inl there ↦ there
+        | inr on_path ↦ elim on_path [
+          | inl here ↦ absurd (x.other (sym here))
+          | inr up ↦
+              let above = path_rank s p h.done (suc (rank s f.var.0)) outer (get_or r.clause k d).var.0 h.on_path.2 up in
+              let older = x.older in
+              absurd (omega (arith, above, older))
+        ]
+      ] in
       record {
         trail = h.trail;
         store = h.store;
@@ -434,7 +434,7 @@ module _ {s : State} {p : ℕ → Bool} {f : Frame} {outer : List Frame} {lits :
             (path_map s p p h.done done' (suc (rank s f.var.0)) outer (λ v x. x) (λ v above off. sees_other h.done done' f.var.0 v sees (λ here. absurd (let e = ap (rank s) here in omega (arith, above, e))) ∙ off) h.on_path.2);
         decided = h.decided;
         lits_met = h.lits_met;
-        brings = brings_more h.brings h.decided f.var.0 f.id done' r sees frame.waits reached (subst (λ n. f.var.0 < n) (length-values_of s.places s.entries) (value_within (assigned s) f.var.0 r.literal.yes r.holds));
+        brings = brings_more s h.done lits h.decided hints f.var.0 f.id done' r sees frame.waits reached (subst (λ n. f.var.0 < n) (length-values_of s.places s.entries) (value_within (assigned s) f.var.0 r.literal.yes r.holds)) h.brings;
       }
 
   -- the path with the frame gone over up to a literal, under which this counts as met
@@ -460,11 +460,11 @@ module _ {s : State} {p : ℕ → Bool} {f : Frame} {outer : List Frame} {lits :
         omega (arith, older),
         path_map s p q h.done h.done (suc (rank s f.var.0)) outer kept (λ v above x. x) h.on_path.2,
       ) where
-    met_before : (j : ℕ) (x : Lit) → j < length c → j < k → p (get_or c j x).var.0 ≡ true
-    met_before j x inside before = elim (cases_lt j f.place) [
-      | inl under ↦ front_met j x under inside
-      | inr over ↦ skipped j x over before
-    ]
+        met_before : (j : ℕ) (x : Lit) → j < length c → j < k → p (get_or c j x).var.0 ≡ true
+        met_before j x inside before = elim (cases_lt j f.place) [
+          | inl under ↦ front_met j x under inside
+          | inr over ↦ skipped j x over before
+        ]
 
 -- by what a call did
 
@@ -474,7 +474,7 @@ descended_at same_path same_lits same_hints h = rw (same_path, same_lits, same_h
 pub seen_sees : (old new : List Var) (v : Var) → new ≡ old ++ v ∷ [] → Sees (has old) (has new) v.0
 seen_sees old new v is = record { at = λ w. subst (λ vars. has vars w ≡ cond (v.0 == w) true (has old w)) (sym is) (has-push old v w) }
 
-reverse_push : (path : List Frame) (f : Frame) → reverse (path ++ f ∷ []) ≡ f ∷ reverse path
+pub reverse_push : (path : List Frame) (f : Frame) → reverse (path ++ f ∷ []) ≡ f ∷ reverse path
 reverse_push path f = reverse-append path (f ∷ [])
 
 -- the path and the literals after a variable was entered
@@ -517,7 +517,7 @@ entered_deeper s old mid new f c k d h at within path_is seen_is lits_is hints_i
 pub count_set : (marks : List Bool) (v : ℕ) → v < length marks → get_or marks v false ≡ false → count_by not (set marks v true) + 1 ≡ count_by not marks
 count_set marks v within off =
     let e = sum_by-set (λ b. cond (not b) 1 0) marks v true false within in
-    let q = ap (λ b. cond (not b) 1 0) off in
+    let q : cond (not (get_or marks v false)) 1 0 ≡ 1 = ap {B = ℕ} (λ b. cond (not b) 1 0) off in
     omega (arith, e, q)
 
 -- the end

@@ -18,13 +18,13 @@ pub all_from_contains : {X : Type 0} (P : X → Type 0) (xs : List X) → ((x : 
 all_from_contains P xs h k d within = h (get_or xs k d) (Contains-get_or xs k d within)
 
 pub any_from_contains : {X : Type 0} (P : X → Type 0) (xs : List X) (x : X) → Contains xs x → P x → Any P xs
-pub any_from_contains P xs x c p = (c.0, x, c.1, c.2, p)
+any_from_contains P xs x c p = (c.0, x, c.1, c.2, p)
 
 pub contains_from_any : {X : Type 0} (P : X → Type 0) (xs : List X) (h : Any P xs) → Contains xs h.1
-pub contains_from_any P xs h = (h.0, h.2, h.3)
+contains_from_any P xs h = (h.0, h.2, h.3)
 
 pub any-reverse : {X : Type 0} (P : X → Type 0) (xs : List X) → Any P xs → Any P (reverse xs)
-pub any-reverse P xs h =
+any-reverse P xs h =
     let w = h.2 in
     let k : ℕ = length xs - 1 - h.0 in
     let len = length-reverse xs in
@@ -57,7 +57,7 @@ not_same a b h = sym (not_not a) ∙ (ap not h ∙ not_not b)
 
 -- two false literals of a variable are one
 pub same_false : (a : List (Option Bool)) (l m : Lit) → l.var.0 ≡ m.var.0 → IsFalseIn a l → IsFalseIn a m → l ≡ m
-pub same_false a l m same f g =
+same_false a l m same f g =
     let q : Some (not l.yes) ≡ Some (not m.yes) = sym f ∙ (ap (value_of a) same ∙ g) in
     let r : not l.yes ≡ not m.yes = cc in
     let s : l.yes ≡ m.yes = not_same l.yes m.yes r in

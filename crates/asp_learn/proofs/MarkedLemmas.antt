@@ -102,17 +102,17 @@ marks_back vars base mid new there back = same_lists new base (back.size ∙ the
 
 module _ {s : State} {vars : List Var} {marks : List Bool} (h : OnlyMarked s vars marks) (v : ℕ) (within : v < s.places) where
   pub marked_is : marked marks v ≡ has vars v
-  marked_is = h.marks.bits v ∙ (ap (λ b. cond (has vars v) true b) (h.clear v within).1 ∙ cond_self (has vars v))
+  marked_is = h.listed.bits v ∙ (ap (λ b. cond (has vars v) true b) (h.clear v within).1 ∙ cond_self (has vars v))
 
   pub inside : v < length marks
-  inside = let a = (h.clear v within).0 in let e = h.marks.size in omega (arith, a, e)
+  inside = let a = (h.clear v within).0 in let e = h.listed.size in omega (arith, a, e)
 
 pub only_start : (s : State) (vars : List Var) (marks : List Bool) → vars ≡ [] → ((v : ℕ) → v < s.places → (v < length marks) × (marked marks v ≡ false)) → OnlyMarked s vars marks
-only_start s vars marks none clear = record { base = marks; clear = clear; marks = marked_start vars marks none }
+only_start s vars marks none clear = record { base = marks; clear = clear; listed = marked_start vars marks none }
 
 -- after a call that marks what it puts on the list
 pub only_kept : {s : State} {old new : List Var} {marks marks' : List Bool} → OnlyMarked s old marks → ((base : List Bool) → AreMarked old base marks → AreMarked new base marks') → OnlyMarked s new marks'
-only_kept h more = record { base = h.base; clear = h.clear; marks = more h.base h.marks }
+only_kept h more = record { base = h.base; clear = h.clear; listed = more h.base h.listed }
 
 -- a variable that is marked stands in the list, and one that is not does not
 pub has_from_marked : {s : State} {vars : List Var} {marks : List Bool} → OnlyMarked s vars marks → (v : ℕ) → v < s.places → marked marks v ≡ true → has vars v ≡ true

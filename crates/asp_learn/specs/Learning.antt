@@ -1,7 +1,10 @@
 -- All that `analyse` and `blame` say of an answer.
-use Rattle.std.specs.Prelude.{◌≡◌, ℕ, ◌⊎◌}
-use Rattle.std.specs.List.{All}
+use Rattle.std.specs.Prelude.{◌≡◌, ◌↔◌, ℕ, ◌⊎◌, List}
+use Rattle.std.specs.List.{All, Contains}
+use Rattle.theory_form.specs.declared.literals.ClauseId.{ClauseId}
+use Rattle.theory_form.specs.declared.literals.Lit.{Lit}
 use Rattle.theory_form.specs.Hints.{FollowsByHints}
+use Rattle.theory_form.specs.Literals.{IsAscending}
 use Rattle.theory_form.specs.Truth.{IsFalseClause}
 use Rattle.asp_store.specs.Store.{State, assigned, clause_at}
 use Rattle.asp_learn.specs.declared.blames.Blamed.{Blamed}
@@ -19,6 +22,12 @@ pub record IsLearned (s : State) (conflict : ℕ) (l : Learned) : Type 0 where
   pub unit : IsUnitAtFirstUip s conflict l.clause l.level l.point
   pub level : IsJumpLevel s.entries l.clause l.level
   pub seen : AreMet s l.hints l.seen
+
+-- a clause of just these literals, with these hints
+pub record IsMadeOf (lits : List Lit) (hints : List ClauseId) (b : Blamed) : Type 0 where
+  pub ascending : IsAscending b.clause
+  pub same : (l : Lit) → Contains b.clause l ↔ Contains lits l
+  pub hints_are : b.hints ≡ hints
 
 pub record IsBlame (s : State) (fault : Fault) (b : Blamed) : Type 0 where
   pub well_formed : IsWellFormed b.clause

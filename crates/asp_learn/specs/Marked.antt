@@ -28,4 +28,4 @@ pub record AreCleared (vars : List Var) (old new : List Bool) : Type 0 where
 pub record OnlyMarked (s : State) (vars : List Var) (marks : List Bool) : Type 0 where
   pub base : List Bool
   pub clear : AreClear s base
-  pub marks : AreMarked vars base marks
+  pub listed : AreMarked vars base marks

@@ -1,14 +1,12 @@
 // What a false clause or a false literal comes from, in decisions alone.
-ghost use Rattle.std.specs.Prelude.{◌≡◌, ◌↔◌, ◌⊎◌, ◌++◌, ◌==◌, [], ◌∷◌, not, Contains, IfOk, filter};
+ghost use Rattle.std.specs.Prelude.{◌≡◌, ◌⊎◌, ◌++◌, ◌==◌, [], ◌∷◌, not, IfOk, filter};
 ghost use Rattle.std.specs.List.{All};
 ghost use Rattle.theory_form.specs.Hints.{FollowsByHints};
-ghost use Rattle.theory_form.specs.Literals.{IsAscending};
 ghost use Rattle.theory_form.specs.Truth.{IsFalseIn};
-ghost use Rattle.theory_form.specs.declared.literals.Lit.{Lit as Literal};
 ghost use Rattle.asp_store.specs.Store.{assigned, clause_at, IsConflict};
 ghost use Rattle.asp_learn.specs.Blames.{CanBlame, IsBlamed, IsImplied, IsOfFault};
 ghost use Rattle.asp_learn.specs.Conflicts.{AreClear, IsAbove0, IsWellFormed};
-ghost use Rattle.asp_learn.specs.Learning.{IsBlame};
+ghost use Rattle.asp_learn.specs.Learning.{IsBlame, IsMadeOf};
 
 use crate::descents::explain;
 use asp_store::{Store, Why};
@@ -76,16 +74,11 @@ fn blame_clause(
         None => unreachable!(),
     };
     let down = explain(alloc, s, lits, marks)?;
-    blamed(down.lits, down.hints, id)
+    make_blamed(down.lits, down.hints, id)
 }
 
 // Blames a literal that is false, whose opposite a clause implied.
-fn blame_literal(
-    alloc: Global,
-    s: &Store,
-    l: Lit,
-    marks: &mut Marks,
-) -> Result<Blamed, AllocError>
+fn blame_literal(alloc: Global, s: &Store, l: Lit, marks: &mut Marks) -> Result<Blamed, AllocError>
     requires is_false { IsFalseIn (assigned s.now) l }
     requires implied { IsImplied s.now.entries l.var.0 }
     requires clear { AreClear s.now marks.old }
@@ -104,7 +97,7 @@ fn blame_literal(
     let others = without(alloc, lits, l.var)?;
     let mut down = explain(alloc, s, others.as_slice(), marks)?;
     down.lits.push(l.opposite())?;
-    blamed(down.lits, down.hints, id)
+    make_blamed(down.lits, down.hints, id)
 }
 
 // The literals that are not of this variable.
@@ -121,10 +114,8 @@ fn without(alloc: Global, lits: &[Lit], v: Var) -> Result<Vec<Lit>, AllocError>
 }
 
 // The clause of these literals, with these hints and one more.
-fn blamed(lits: Vec<Lit>, hints: Vec<ClauseId>, last: ClauseId) -> Result<Blamed, AllocError>
-    ensures ascending { IfOk result (λ b. IsAscending b.clause) }
-    ensures same { IfOk result (λ b. (l : Literal) → Contains b.clause l ↔ Contains lits.items l) }
-    ensures hints { IfOk result (λ b. b.hints ≡ hints.items ++ last ∷ []) }
+fn make_blamed(lits: Vec<Lit>, hints: Vec<ClauseId>, last: ClauseId) -> Result<Blamed, AllocError>
+    ensures { IfOk result (IsMadeOf lits.items (hints.items ++ last ∷ [])) }
 {
     let mut hints = hints;
     hints.push(last)?;

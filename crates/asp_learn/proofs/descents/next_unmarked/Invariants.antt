@@ -1,4 +1,4 @@
-use Rattle.std.proofs.Common.{◌≡◌, ◌<◌, ◌≤◌, ℕ, get_or, true}
+use Rattle.std.proofs.Common.{◌≡◌, ◌<◌, ◌≤◌, ℕ, get_or, length, true}
 use Rattle.theory_form.specs.declared.literals.Lit.{Lit}
 use Rattle.asp_learn.specs.Marked.{marked}
 use Rattle.asp_learn.proofs.descents.next_unmarked.Given as goal

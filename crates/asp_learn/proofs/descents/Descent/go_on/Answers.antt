@@ -4,4 +4,3 @@ use Rattle.asp_learn.specs.Marked.{has, marked}
 use Rattle.asp_learn.proofs.DescentLemmas.{all_met, count_set, entered_deeper, frame_within, left_frame, left_within, seen_sees, within_entered}
 use Rattle.asp_learn.proofs.MarkedLemmas.{has_from_marked, inside, none_from_unmarked, has-kept}
 use Rattle.asp_learn.proofs.descents.Descent.go_on.Goals as goal
-
