@@ -1,5 +1,5 @@
 // Variables that a walk came to, as a list and as marks.
-ghost use Rattle.std.specs.Prelude.{◌≡◌, ◌++◌, ◌<◌, [], ◌∷◌, Bool, List, length, true, slice_set, IsFalse, OnOk};
+ghost use Rattle.std.specs.Prelude.{◌≡◌, ◌++◌, ◌<◌, ◌≤◌, [], ◌∷◌, Bool, List, length, true, slice_set, vec_len, IsFalse, OnOk};
 ghost use Rattle.std.specs.List.{All};
 ghost use Rattle.theory_form.specs.declared.literals.Var.{Var as Variable};
 ghost use Rattle.asp_learn.specs.Marked.{AreCleared, AreMarked, marked};
@@ -11,6 +11,7 @@ use theory_form::{Marks, Var};
 pub fn visit(seen: &mut Vec<Var>, v: Var, marks: &mut Marks) -> Result<(), AllocError>
     requires { v.0 < length marks.old }
     ensures seen { OnOk result (seen.new.items ≡ seen.old.items ++ v ∷ []) }
+    ensures len { vec_len seen.old ≤ vec_len seen.new }
     ensures bits { OnOk result (marks.new ≡ slice_set marks.old v.0 true) }
     ensures marked { (base : List Bool) → IsFalse (marked marks.old v.0) → AreMarked seen.old.items base marks.old → AreMarked seen.new.items base marks.new }
 {
