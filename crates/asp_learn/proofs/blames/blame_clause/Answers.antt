@@ -17,7 +17,7 @@ returns-clause-blame c =
     let z : Some can.clause ≡ Some lits = sym can.stored ∙ at in
     let same : can.clause ≡ lits = cc in
     let f : IsConflict s.clauses (assigned s) c.args.id.0 = record { clause = lits; stored = at; all_false = subst (IsFalseClause (assigned s)) same can.all_false } in
-    let d = c.in_ok-down.field-0 in
+    let d = c.in_ok-down.down in
     let x = c.in_ok-down.ensures.explained in
     IfOk-weaker c.make_blamed.result (IsMadeOf d.lits.items (d.hints.items ++ c.args.id ∷ [])) (IsBlame s (Conflict c.args.id))
     (λ b m. blame_of_clause c.assignment-assignment.ensures.trail f x b m.ascending m.same m.hints_are) c.make_blamed.ensures
