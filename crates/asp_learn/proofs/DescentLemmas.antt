@@ -1,17 +1,17 @@
 -- The steps of the way down.
-use Rattle.std.proofs.Common.{◌≡◌, ℕ, zero, suc, ◌+◌, ◌<◌, ◌≤◌, ◌≢◌, ◌⊎◌, inl, inr, ◌++◌, Bool, true, false, not, List, [], ◌∷◌, cond, ◌==◌, length, Option, Some, None, get_or, set, reverse, eq-eqb, refl, ap, sym, ◌∙◌, subst, arith, length-set, append_assoc}
+use Rattle.std.proofs.Common.{◌≡◌, ℕ, suc, ◌+◌, ◌<◌, ◌≤◌, ◌≢◌, inl, inr, ◌++◌, Bool, true, false, not, List, [], ◌∷◌, cond, ◌==◌, length, Option, Some, None, get_or, set, reverse, refl, ap, sym, ◌∙◌, subst, arith, length-set, append_assoc}
 use Rattle.std.specs.Prelude.{Any, count_by}
 use Rattle.std.specs.List.{All}
 use Rattle.std.proofs.lemmas.Bool.{cases_eq, cases_lt}
 use Rattle.std.proofs.lemmas.List.{get_or-set_same, get_or-set_other, get_or_default, reverse-append}
 use Rattle.std.proofs.lemmas.List.Sums.{sum_by-set}
-use Rattle.std.proofs.lemmas.List.Elements.{All-contains, All-push, All-weaker, Contains-append_left, Contains-get_or}
+use Rattle.std.proofs.lemmas.List.Elements.{All-contains, All-push, All-weaker, Contains-append_left}
 use Rattle.std.proofs.lemmas.List.Quantifiers.{Any-push}
 use Rattle.theory_form.specs.declared.literals.Lit.{Lit}
 use Rattle.theory_form.specs.declared.literals.ClauseId.{ClauseId}
 use Rattle.theory_form.specs.declared.literals.Var.{Var}
 use Rattle.theory_form.specs.Hints.{Follows, made_true}
-use Rattle.theory_form.specs.Truth.{value_of, IsFalseIn, IsUnitBy}
+use Rattle.theory_form.specs.Truth.{value_of, IsFalseIn}
 use Rattle.asp_trail.specs.declared.Entry.{Entry}
 use Rattle.asp_trail.specs.declared.Why.{Why}
 use Rattle.asp_trail.specs.declared.Why.TheVariants.{Decision, Clause}
@@ -25,7 +25,7 @@ use Rattle.asp_learn.specs.Conflicts.{before, level_in, Implies, Mentions}
 use Rattle.asp_learn.specs.Descents.{rank, Brings, Descended, Explained, IsAtRest, IsClosed, IsDecided, IsDescended, IsEntered, IsEnteredFor, IsFrame, IsPath, IsReached, OnPath, Within}
 use Rattle.asp_learn.specs.Marked.{has}
 use Rattle.asp_learn.proofs.GatherLemmas.{Any-append_left, Sees, sees_here, sees_kept, sees_other}
-use Rattle.asp_learn.proofs.LevelLemmas.{bool_cases, value_cases, before-same, before-other, other_from_value, value-other, value-same, level_in-other, level_in-same, why_in-same, why_in-other}
+use Rattle.asp_learn.proofs.LevelLemmas.{bool_cases, before-same, before-other, other_from_value, value-other, value-same, level_in-other, level_in-same, why_in-same, why_in-other}
 use Rattle.asp_learn.proofs.FalseLemmas.{all_from_contains}
 use Rattle.asp_learn.proofs.MarkedLemmas.{has-push, not_true_false}
 use Rattle.asp_learn.proofs.WalkLemmas.{Follows-reason}

@@ -1,5 +1,5 @@
 -- The way down from false literals to the decisions that they come from, along the reasons of implied variables.
-use Rattle.std.specs.Prelude.{◌≡◌, ℕ, suc, ◌<◌, ◌≤◌, ◌⊎◌, ◌++◌, Bool, true, false, List, [], ◌∷◌, length, Option, Some, None, slice_index_or, Any, reverse}
+use Rattle.std.specs.Prelude.{◌≡◌, ℕ, suc, ◌<◌, ◌≤◌, ◌⊎◌, ◌++◌, Bool, true, false, List, [], ◌∷◌, length, Option, Some, None, slice_index_or, Any}
 use Rattle.std.specs.List.{All}
 use Rattle.theory_form.specs.declared.literals.Lit.{Lit}
 use Rattle.theory_form.specs.declared.literals.ClauseId.{ClauseId}

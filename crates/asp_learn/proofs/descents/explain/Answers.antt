@@ -1,8 +1,8 @@
-use Rattle.std.proofs.Common.{◌≡◌, Bool, [], ℕ, false, List, refl, ap, sym, subst, ◌∙◌}
+use Rattle.std.proofs.Common.{List, ap, subst}
 use Rattle.theory_form.specs.declared.literals.Var.{Var}
 use Rattle.asp_learn.specs.Marked.{has, AreCleared}
 use Rattle.asp_learn.proofs.DescentLemmas.{descended_start, explained_end, within_start}
-use Rattle.asp_learn.proofs.MarkedLemmas.{all_inside, marked_start, marks_back, only_start}
+use Rattle.asp_learn.proofs.MarkedLemmas.{marked_start, marks_back, only_start}
 use Rattle.asp_learn.proofs.descents.explain.Goals as goal
 
 pub descend_all-done-requires : goal.descend_all-done-requires

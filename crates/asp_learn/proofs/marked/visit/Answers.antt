@@ -1,5 +1,3 @@
-use Rattle.std.proofs.Common.{sym, subst}
-use Rattle.asp_learn.specs.Marked.{AreMarked}
 use Rattle.asp_learn.proofs.MarkedLemmas.{marked_push}
 use Rattle.asp_learn.proofs.marked.visit.Goals as goal
 

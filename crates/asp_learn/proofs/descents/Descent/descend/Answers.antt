@@ -1,4 +1,4 @@
-use Rattle.std.proofs.Common.{◌≡◌, ◌<◌, [], ℕ, List, not, true, false, sym, subst, arith}
+use Rattle.std.proofs.Common.{◌≡◌, ◌<◌, ℕ, List, not, true, false, sym, subst, arith}
 use Rattle.theory_form.specs.declared.literals.ClauseId.{ClauseId}
 use Rattle.theory_form.specs.declared.literals.Var.{Var}
 use Rattle.asp_trail.proofs.TrailLemmas.{length-values_of, value_within}

@@ -1,4 +1,4 @@
-use Rattle.std.proofs.Common.{◌≡◌, not, sym, ◌∙◌}
+use Rattle.std.proofs.Common.{not, sym, ◌∙◌}
 use Rattle.asp_learn.proofs.DescentLemmas.{why_there}
 use Rattle.asp_learn.proofs.descents.Descent.enter.Goals as goal
 

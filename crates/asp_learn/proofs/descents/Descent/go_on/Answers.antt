@@ -1,4 +1,4 @@
-use Rattle.std.proofs.Common.{◌≡◌, ◌<◌, ◌+◌, ◌∷◌, ◌++◌, [], ℕ, Bool, List, length, get_or, reverse, refl, sym, subst, arith}
+use Rattle.std.proofs.Common.{◌<◌, ℕ, Bool, List, length, get_or, reverse, refl, sym, subst, arith}
 use Rattle.theory_form.specs.declared.literals.ClauseId.{ClauseId}
 use Rattle.theory_form.specs.declared.literals.Lit.{Lit}
 use Rattle.asp_learn.specs.declared.descents.Descent.{Descent}
