@@ -1,0 +1,14 @@
+pub mod AnswerLemmas
+pub mod FoundLemmas
+pub mod HoldLemmas
+pub mod OneLog
+pub mod PeriodLemmas
+pub mod QueryLemmas
+pub mod ResumeLemmas
+pub mod RunLemmas
+pub mod StateLemmas
+pub mod StepsLemmas
+pub mod OpenLemmas
+pub mod TurnLemmas
+pub mod ValidLemmas
+pub mod BaseLemmas
