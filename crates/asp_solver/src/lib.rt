@@ -8,8 +8,6 @@ mod laws;
 mod queries;
 mod runs;
 mod solver;
-#[cfg(test)]
-mod tests;
 
 pub use answers::{Answer, Turn};
 pub use kept::{Kept, Rest};

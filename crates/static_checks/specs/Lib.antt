@@ -1,0 +1,5 @@
+pub mod Programs
+pub mod Faults
+pub mod Conditions
+pub mod Judgements
+pub mod Told
