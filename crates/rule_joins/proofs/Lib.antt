@@ -4,3 +4,8 @@ pub mod PlaceLemmas
 pub mod MapLemmas
 pub mod TermLemmas
 pub mod ChainLemmas
+pub mod ConditionLemmas
+pub mod OuterLemmas
+pub mod PartLemmas
+pub mod InstanceLemmas
+pub mod RuleLemmas

@@ -3,3 +3,10 @@ pub mod Stands
 pub mod Terms
 pub mod Chains
 pub mod Compiled
+pub mod Plans
+pub mod Comparisons
+pub mod Conditions
+pub mod Outer
+pub mod Parts
+pub mod Rules
+pub mod Orders
