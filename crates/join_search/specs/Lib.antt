@@ -1,1 +1,9 @@
 pub mod Matches
+pub mod Relations
+pub mod Indexes
+pub mod Asked
+pub mod Plans
+pub mod Searches
+pub mod Rests
+pub mod Opened
+pub mod Moves

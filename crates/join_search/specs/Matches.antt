@@ -1,7 +1,7 @@
 -- What a match of patterns with values does to a binding, and what evaluating a pattern answers.
 use Rattle.std.specs.Prelude.{◌≡◌, ◌<◌, ◌↔◌, ◌⊎◌, ℕ, ℤ, Bool, List, Option, Some, None, Contains, IfSome, IsTrue, map}
 use Rattle.ap_term.specs.declared.shape.TermId.{TermId}
-use Rattle.ap_term.specs.Table.{value_at}
+use Rattle.ap_term.specs.Table.{IsIdOf, value_at}
 use Rattle.ap_term.specs.Value.{Value, integer, depth, IsInteger}
 use Rattle.join_form.specs.Bindings.{bound_at, is_bound, Fits, IsBindingOf}
 use Rattle.join_form.specs.Patterns.{Assignment}

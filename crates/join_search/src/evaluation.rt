@@ -47,7 +47,7 @@ pub fn evaluate(
 }
 
 // The id of the value with this outermost level, or nothing where it is too deep.
-fn intern(terms: &mut Terms, shape: Shape) -> Result<Option<TermId>, AllocError>
+pub(crate) fn intern(terms: &mut Terms, shape: Shape) -> Result<Option<TermId>, AllocError>
     requires { IsShapeOver terms.old shape }
     ensures id { IfOk result (λ found. IfSome found (IsIdOf terms.new)) }
     ensures value { IfOk result (IsFound terms.new (value_of terms.old shape)) }
