@@ -6,3 +6,4 @@ pub mod Reduct
 pub mod AnswerSets
 pub mod Acyclic
 pub mod Obedience
+pub mod Orders

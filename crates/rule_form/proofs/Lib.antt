@@ -23,3 +23,6 @@ pub mod Matching
 pub mod PossibleValues
 pub mod Limits
 pub mod Examples
+pub mod Guarded
+pub mod MadeByInstances
+pub mod DepthBounds

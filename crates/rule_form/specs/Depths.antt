@@ -1,6 +1,7 @@
 -- The values whose depth is limited: arguments of possible atoms, and values of the terms of rules.
-use Rattle.std.specs.Prelude.{◌⊎◌, ◌<◌, ℕ, pos, if◌then◌else◌, suc, zero, Bool, true, false, not, ◌&&◌, List, [], ◌∷◌, ◌++◌, Option, Some, None, Contains, IfSome, IsTrue, map, flat_map}
+use Rattle.std.specs.Prelude.{◌≡◌, ◌⊎◌, ◌+◌, ◌-◌, ◌*◌, ◌<◌, ◌≤◌, max, ℕ, pos, if◌then◌else◌, suc, zero, Bool, true, false, not, ◌&&◌, List, [], ◌∷◌, ◌++◌, length, Option, Some, None, Contains, IfSome, IsTrue, map, flat_map}
 use Rattle.std.specs.List.{list_any}
+use Rattle.std.specs.Option.{option_map_or}
 use Rattle.std.specs.Str.{bytes_eq}
 use Rattle.ap_syntax.specs.declared.terms.Rel.{Rel}
 use Rattle.ap_syntax.specs.declared.terms.Rel.TheVariants.{Eq, Ne, Lt, Le, Gt, Ge}
@@ -8,7 +9,7 @@ use Rattle.ap_term.specs.Value.{Value, integer, constant, string, compound, dept
 use Rattle.rule_form.specs.Instances.{value_list}
 use Rattle.rule_form.specs.Relevant.{IsUncertain}
 use Rattle.rule_form.specs.Arguments.{arguments_of}
-use Rattle.rule_form.specs.Globals.{Agrees, global_variables, variables}
+use Rattle.rule_form.specs.Globals.{global_variables}
 use Rattle.rule_form.specs.Possible.{Setting, IsPossible, IsCertain}
 use Rattle.rule_form.specs.Trees.{Term, Variable, Anything, Fixed, Compound, Operation, Interval, Terms, nothing, more, Atom, Literal, Pos, Not, Compare, Guard, Element, Aggregate, Item, Plain, Each, Agg, Choosable, Head, One, Choice, Nothing, Rule}
 use Rattle.rule_form.specs.Truth.{Holds, AggregateHolds}
@@ -102,13 +103,29 @@ positive_arguments (Plain (Compare left rel right) ∷ items) = positive_argumen
 positive_arguments (Each l c ∷ items) = positive_arguments items
 positive_arguments (Agg g ∷ items) = positive_arguments items
 
--- the values that the variables have there: positive atoms are possible, and as long as a variable has no value, the first item that
--- can bind one gives it its value. Other items are not looked at
-pub record HasValues (setting : Setting) (assigned : List (List ℕ) → Aggregate
-    → Bool) (globals names : List (List ℕ)) (s : Substitution) (items : List Item) : Type 0 where
+-- the variables that have values after the first n binders, where those of these names had some before
+abbrev pub names_got : (List (List ℕ) → Aggregate → Bool) → ℕ → List (List ℕ) → List Item → List (List ℕ)
+names_got assigned zero names items = names
+names_got assigned (suc n) names items = option_map_or
+    (λ item. names_got assigned n (item_binds assigned names item ++ names) items) (first_binder assigned names items) names
+
+-- the variables of these names have their values: the positive atoms are possible together, and one item after the other gave a variable
+-- its value, each time the first that could. Other items are not looked at
+pub record GetsValues (setting : Setting) (assigned : List (List ℕ) → Aggregate
+    → Bool) (globals : List (List ℕ)) (s : Substitution) (items : List Item) (names : List (List ℕ)) : Type 0 where
   pub possible : (atom : Atom) → Contains items (Plain (Pos atom))
       → Holds (IsPossible setting) (λ b. Unit {0}) s (Pos atom)
-  pub others : (n : ℕ) → GetValues setting assigned globals s n (positive_arguments items ++ names) items
+  pub steps : ℕ
+  -- an item gives values once
+  pub few : steps ≤ length items
+  pub binders : GetValues setting assigned globals s steps (positive_arguments items) items
+  pub got : names ≡ names_got assigned steps (positive_arguments items) items
+
+-- v is a value of the term as soon as its variables have theirs. A term without variables has its value always
+abbrev pub IsReached : Setting → (List (List ℕ) → Aggregate → Bool) → (globals : List (List ℕ)) → Substitution → List Item
+    → Term → Value → Type 0
+IsReached setting assigned globals s items t v = (names : List (List ℕ))
+    × ((names ≡ []) ⊎ GetsValues setting assigned globals s items names) × IsTrue (is_bound names t) × IsValue s t v
 
 -- ---- terms
 
@@ -123,15 +140,11 @@ literal_terms (Pos atom) = term_list atom.terms
 literal_terms (Not atom) = term_list atom.terms
 literal_terms (Compare left rel right) = left ∷ right ∷ []
 
--- those of a literal that gives no values to variables: the values of the terms of a positive atom are arguments of possible atoms
+-- those of a literal whose values count: the values of the terms of a positive atom are arguments of possible atoms
 abbrev pub tested_terms : Literal → List Term
 tested_terms (Pos atom) = []
 tested_terms (Not atom) = term_list atom.terms
 tested_terms (Compare left rel right) = left ∷ right ∷ []
-
--- no `_` is in the term. A `_` beside `=` has the value of the other side, and the number of an aggregate is as deep as any
-abbrev pub is_named : Term → Bool
-is_named t = is_bound (variables t) t
 
 -- the term of a guard
 abbrev pub guard_terms : Option Guard → List Term
@@ -159,6 +172,10 @@ pub record Part : Type 0 where
 abbrev pub part_of : List Term → List Literal → Part
 part_of terms condition = record { terms = terms ++ flat_map tested_terms condition; condition = condition }
 
+-- the body of the rule with the condition of the part
+abbrev pub part_items : Rule → Part → List Item
+part_items rule part = rule.body ++ map (λ l. Plain l) part.condition
+
 -- the parts of an aggregate, and a conditional literal
 abbrev pub item_parts : Item → List Part
 item_parts (Plain l) = []
@@ -180,7 +197,7 @@ atom_arguments (compound name vs) = value_list vs
 
 -- ---- the values whose depth counts
 
-module _ (setting : Setting) (assigned : List (List ℕ) → Aggregate → Bool) where
+module _ (setting : Setting) (assigned : List (List ℕ) → List (List ℕ) → Aggregate → Bool) where
   -- an argument of a possible atom
   abbrev pub OfAtom : Value → Type 0
   OfAtom v = (a : Value) × IsPossible setting a × Contains (atom_arguments a) v
@@ -188,17 +205,47 @@ module _ (setting : Setting) (assigned : List (List ℕ) → Aggregate → Bool)
   -- a value of a term of a rule
   abbrev pub OfRule : Value → Type 0
   OfRule v = (rule : Rule) × (s : Substitution) × (t : Term) × Contains setting.rules rule
-      × HasValues setting assigned (global_variables rule) [] s rule.body
-      × Contains (head_terms rule.head ++ flat_map item_terms rule.body) t × IsTrue (is_named t) × IsValue s t v
+      × Contains (head_terms rule.head ++ flat_map item_terms rule.body) t
+      × IsReached setting (assigned (global_variables rule)) (global_variables rule) s rule.body t v
 
-  -- global variables keep their values in a part
+  -- a value of a term of a part: the body gives values to global variables, and the condition to those of the part
   abbrev pub OfPart : Value → Type 0
-  OfPart v = (rule : Rule) × (s u : Substitution) × (part : Part) × (t : Term) × Contains setting.rules rule
-      × HasValues setting assigned (global_variables rule) [] s rule.body
-      × Contains (head_parts rule.head ++ flat_map item_parts rule.body) part × Agrees (global_variables rule) s u
-      × HasValues setting assigned (global_variables rule) (global_variables rule) u (map (λ l. Plain l) part.condition) × Contains part.terms t × IsTrue (is_named t)
-      × IsValue u t v
+  OfPart v = (rule : Rule) × (s : Substitution) × (part : Part) × (t : Term) × Contains setting.rules rule
+      × Contains (head_parts rule.head ++ flat_map item_parts rule.body) part × Contains part.terms t
+      × IsReached setting (assigned (global_variables rule)) (global_variables rule) s (part_items rule part) t v
 
   -- such a value is deeper than d
   abbrev pub IsTooDeep : ℕ → Type 0
   IsTooDeep d = (v : Value) × (OfAtom v ⊎ (OfRule v ⊎ OfPart v)) × (d < depth v)
+
+-- ---- a quick test
+
+-- how much deeper a value of a term is than those of its variables, at most; no value is less deep than 1
+abbrev mutual
+  pub rise : Term → ℕ
+  rise (Variable name) = 0
+  rise Anything = 0
+  rise (Fixed value) = depth value - 1
+  rise (Compound name parts) = suc (rises parts)
+  rise (Operation op left right) = 0
+  rise (Interval low high) = 0
+
+  pub rises : Terms → ℕ
+  rises nothing = 0
+  rises (more t ts) = max (rise t) (rises ts)
+
+-- the same of an item that may give a value to a variable
+abbrev pub item_rise : Item → ℕ
+item_rise (Plain (Pos atom)) = 0
+item_rise (Plain (Not atom)) = 0
+item_rise (Plain (Compare left rel right)) = max (rise left) (rise right)
+item_rise (Each l c) = 0
+item_rise (Agg g) = 0
+
+abbrev pub largest_rise : List Item → ℕ
+largest_rise [] = 0
+largest_rise (item ∷ items) = max (item_rise item) (largest_rise items)
+
+-- how much deeper a value of the term is than any argument of a possible atom, where these items give values to variables
+abbrev pub reach : List Item → Term → ℕ
+reach items t = length items * largest_rise items + rise t

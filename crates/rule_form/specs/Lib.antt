@@ -18,3 +18,5 @@ pub mod Depths
 pub mod Counts
 pub mod Layers
 pub mod Unfolded
+pub mod Made
+pub mod Integers

@@ -3,11 +3,11 @@
 //! The functions of this crate do nothing. Each contract is a law over the definitions in `specs/`.
 #![tactic(auto)]
 
-ghost use Rattle.std.specs.Prelude.{◌≡◌, ◌⊎◌, ◌↔◌, ℕ, suc, Bool, List, [], All, Contains, IsTrue, ◌≤◌, length};
+ghost use Rattle.std.specs.Prelude.{◌≡◌, ◌⊎◌, ◌↔◌, ◌+◌, ◌++◌, ℕ, suc, Bool, List, [], All, Contains, IsTrue, IsFalse, ◌≤◌, flat_map, length};
 ghost use Rattle.ap_syntax.specs.declared.terms.Rel.TheVariants.{Eq};
-ghost use Rattle.ap_term.specs.Value.{Value};
+ghost use Rattle.ap_term.specs.Value.{Value, depth};
 ghost use Rattle.rule_form.specs.Components.{AreAtomsBelow, IsComponentJoined};
-ghost use Rattle.rule_form.specs.Depths.{has_name};
+ghost use Rattle.rule_form.specs.Depths.{has_name, reach, Part, head_terms, item_terms, head_parts, item_parts, part_items, OfAtom, IsTooDeep};
 ghost use Rattle.rule_form.specs.PossibleValues.{Equation, AreEquations, names_after, grown};
 ghost use Rattle.rule_form.specs.Instances.{Instance, IsInstance, IsSame};
 ghost use Rattle.rule_form.specs.Matching.{State, Fits, FitsIfAny, match_term};
@@ -16,10 +16,11 @@ ghost use Rattle.rule_form.specs.Arguments.{IsShown};
 ghost use Rattle.rule_form.specs.AnswerSets.{Derives, IsAnswerSet};
 ghost use Rattle.rule_form.specs.Layers.{is_layered};
 ghost use Rattle.rule_form.specs.Unfolded.{Gives, atom_name, named};
-ghost use Rattle.rule_form.specs.Possible.{Setting, IsPossible, IsCertain};
+ghost use Rattle.rule_form.specs.Made.{HasCertain, HasPossible};
+ghost use Rattle.rule_form.specs.Possible.{Setting, IsPossible, IsCertain, MakesPossible, MakesCertain};
 ghost use Rattle.rule_form.specs.Predicates.{Predicate, predicate_of, IsOrdered};
 ghost use Rattle.rule_form.specs.Static.{AreStatic};
-ghost use Rattle.rule_form.specs.Trees.{Compare, Item, Plain, Rule, Term};
+ghost use Rattle.rule_form.specs.Trees.{Aggregate, Compare, Item, Plain, Rule, Term};
 ghost use Rattle.rule_form.specs.Values.{Substitution, IsValue};
 ghost use Rattle.rule_form.specs.Truth.{AtomSet, Holds};
 
@@ -81,4 +82,25 @@ pub fn bound_variables_have_values()
 pub fn no_more_atoms()
     ensures { (setting : Setting) (n : ℕ) (rows : List Value) → ((a : Value) → IsPossible setting a → Contains rows a) →
         length rows ≤ n → MoreThan n (IsPossible setting) → ⊥ }
+{}
+
+/// What a rule makes possible or certain by rows of lower components, its instances do, and nothing else.
+pub fn made_by_instances()
+    ensures possible { (setting : Setting) (rows sure : List Value) (rule : Rule) (a : Value) → Contains setting.rules rule →
+        MakesPossible setting (Contains rows) (Contains sure) a rule ↔ HasPossible setting (Contains rows) (Contains sure) a rule }
+    ensures certain { (setting : Setting) (rows sure : List Value) (rule : Rule) (a : Value) → Contains setting.rules rule →
+        MakesCertain setting (Contains rows) (Contains sure) a rule ↔ HasCertain setting (Contains rows) (Contains sure) a rule }
+{}
+
+/// A quick test of depths: where no argument of a possible atom is deeper than b, no value of a term is deeper than b and its reach.
+pub fn values_are_not_deep()
+    ensures { (setting : Setting) (assigned : List (List ℕ) → List (List ℕ) → Aggregate → Bool) (b d : ℕ) →
+        ((globals names : List (List ℕ)) (g : Aggregate) → IsTrue (assigned globals names g) → IsFalse g.negated) →
+        1 ≤ b → b ≤ d → ((v : Value) → OfAtom setting assigned v → depth v ≤ b) →
+        ((rule : Rule) (t : Term) → Contains setting.rules rule → Contains (head_terms rule.head ++ flat_map item_terms rule.body) t →
+        b + reach rule.body t ≤ d) →
+        ((rule : Rule) (part : Part) (t : Term) → Contains setting.rules rule →
+        Contains (head_parts rule.head ++ flat_map item_parts rule.body) part → Contains part.terms t →
+        b + reach (part_items rule part) t ≤ d) →
+        IsTooDeep setting assigned d → ⊥ }
 {}

@@ -1,0 +1,13 @@
+pub mod OrderLemmas
+pub mod RowOrder
+pub mod SortLemmas
+pub mod NumberLemmas
+pub mod FoundLemmas
+pub mod LiteralOrder
+pub mod KeyLemmas
+pub mod ZipLemmas
+pub mod NumberingLemmas
+pub mod ArrangeLemmas
+pub mod OneList
+pub mod GroupLemmas
+pub mod InputLemmas

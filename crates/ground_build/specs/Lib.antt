@@ -1,0 +1,5 @@
+pub mod Orders
+pub mod Literals
+pub mod Groups
+pub mod Keys
+pub mod Arranged
