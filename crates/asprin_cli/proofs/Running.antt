@@ -40,8 +40,14 @@ not_optimum refusals.Bytes e = cc
 not_optimum (refusals.Syntax file at) e = cc
 not_optimum (refusals.Unsupported file at construct) e = cc
 not_optimum (refusals.Limit which) e = cc
+not_optimum (refusals.Misnamed file at cause) e = cc
+not_optimum (refusals.NamingCycle list) e = cc
+not_optimum (refusals.BadElement name place) e = cc
+not_optimum (refusals.Unsafe file at variable) e = cc
+not_optimum (refusals.AggregateRecursion file at) e = cc
+not_optimum (refusals.Recursion file at) e = cc
+not_optimum (refusals.NotDomain file at) e = cc
 not_optimum (refusals.Later file at) e = cc
-not_optimum (refusals.ConstTwice file at) e = cc
 not_optimum refusals.Trial e = cc
 
 not_source : (r : Refusal) → refusal_status r ≡ statuses.Source → ⊥
@@ -50,8 +56,14 @@ not_source refusals.Bytes e = cc
 not_source (refusals.Syntax file at) e = cc
 not_source (refusals.Unsupported file at construct) e = cc
 not_source (refusals.Limit which) e = cc
+not_source (refusals.Misnamed file at cause) e = cc
+not_source (refusals.NamingCycle list) e = cc
+not_source (refusals.BadElement name place) e = cc
+not_source (refusals.Unsafe file at variable) e = cc
+not_source (refusals.AggregateRecursion file at) e = cc
+not_source (refusals.Recursion file at) e = cc
+not_source (refusals.NotDomain file at) e = cc
 not_source (refusals.Later file at) e = cc
-not_source (refusals.ConstTwice file at) e = cc
 not_source refusals.Trial e = cc
 
 only_usage : (r : Refusal) → refusal_status r ≡ statuses.Usage → r ≡ refusals.Usage
@@ -60,8 +72,14 @@ only_usage refusals.Bytes e = cc
 only_usage (refusals.Syntax file at) e = cc
 only_usage (refusals.Unsupported file at construct) e = cc
 only_usage (refusals.Limit which) e = cc
+only_usage (refusals.Misnamed file at cause) e = cc
+only_usage (refusals.NamingCycle list) e = cc
+only_usage (refusals.BadElement name place) e = cc
+only_usage (refusals.Unsafe file at variable) e = cc
+only_usage (refusals.AggregateRecursion file at) e = cc
+only_usage (refusals.Recursion file at) e = cc
+only_usage (refusals.NotDomain file at) e = cc
 only_usage (refusals.Later file at) e = cc
-only_usage (refusals.ConstTwice file at) e = cc
 only_usage refusals.Trial e = cc
 
 stop_optimum : (stop : Stop) → stop_status stop ≡ statuses.NoOptimum → ⊥

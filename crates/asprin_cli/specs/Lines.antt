@@ -7,10 +7,11 @@ use Rattle.ap_base.specs.declared.status.Status.TheVariants as status
 use Rattle.ap_lexemes.specs.Constructs.{name_of}
 use Rattle.ap_lexemes.specs.declared.limit.Limit as limits
 use Rattle.ap_lexemes.specs.declared.limit.Limit.TheVariants as limit
+use Rattle.pref_bind.specs.Causes.{name_of as cause_name}
 use Rattle.asprin_cli.specs.declared.end.End.{End}
 use Rattle.asprin_cli.specs.declared.end.End.TheVariants.{Source, Refused, Unsatisfiable, NoOptimum, Done}
 use Rattle.asprin_cli.specs.declared.end.Refusal.{Refusal}
-use Rattle.asprin_cli.specs.declared.end.Refusal.TheVariants.{Usage, Bytes, Syntax, Unsupported, Limit, Later, ConstTwice, Trial}
+use Rattle.asprin_cli.specs.declared.end.Refusal.TheVariants.{Usage, Bytes, Syntax, Unsupported, Limit, Misnamed, NamingCycle, BadElement, Unsafe, AggregateRecursion, Recursion, NotDomain, Later, Trial}
 
 -- a place, and what stands behind it: the number of a file, from 1, and a byte, from 0
 abbrev pub placed : (file at : ℕ) → List ℕ → List ℕ
@@ -22,6 +23,10 @@ limit_text limit.Nesting = codes "nesting 32"
 limit_text limit.Arity = codes "arity 32"
 limit_text limit.Formula = codes "formula 64"
 
+-- an atom, or another name, behind a space
+abbrev pub atom_text : List ℕ → List ℕ
+atom_text name = 32 ∷ name
+
 -- the last line of a refusal
 abbrev pub refusal_line : Refusal → List ℕ
 refusal_line Usage = codes "USAGE\n"
@@ -30,8 +35,14 @@ refusal_line (Syntax file at) = codes "SYNTAX " ++ placed file at (codes "\n")
 refusal_line (Unsupported file at construct) =
     codes "UNSUPPORTED " ++ placed file at (codes " " ++ name_of construct ++ codes "\n")
 refusal_line (Limit which) = codes "LIMIT " ++ limit_text which ++ codes "\n"
+refusal_line (Misnamed file at cause) = codes "NAMING " ++ placed file at (codes " " ++ cause_name cause ++ codes "\n")
+refusal_line (NamingCycle names) = codes "NAMING cycle" ++ flat_map atom_text names ++ 10 ∷ []
+refusal_line (BadElement statement place) = codes "BAD ELEMENT " ++ statement ++ codes " " ++ decimal place ++ 10 ∷ []
+refusal_line (Unsafe file at variable) = codes "UNSAFE " ++ placed file at (codes " " ++ variable ++ codes "\n")
+refusal_line (AggregateRecursion file at) = codes "AGGREGATE RECURSION " ++ placed file at (codes "\n")
+refusal_line (Recursion file at) = codes "RECURSION " ++ placed file at (codes "\n")
+refusal_line (NotDomain file at) = codes "NOT DOMAIN " ++ placed file at (codes "\n")
 refusal_line (Later file at) = codes "UNSUPPORTED " ++ placed file at (codes " later\n")
-refusal_line (ConstTwice file at) = codes "NAMING " ++ placed file at (codes " const\n")
 refusal_line Trial = codes "LIMIT trial 12\n"
 
 -- the status that it names
@@ -41,8 +52,14 @@ refusal_status Bytes = status.Limit
 refusal_status (Syntax file at) = status.Syntax
 refusal_status (Unsupported file at construct) = status.Unsupported
 refusal_status (Limit which) = status.Limit
+refusal_status (Misnamed file at cause) = status.Naming
+refusal_status (NamingCycle names) = status.Naming
+refusal_status (BadElement statement place) = status.BadElement
+refusal_status (Unsafe file at variable) = status.Unsafe
+refusal_status (AggregateRecursion file at) = status.AggregateRecursion
+refusal_status (Recursion file at) = status.Recursion
+refusal_status (NotDomain file at) = status.NotDomain
 refusal_status (Later file at) = status.Unsupported
-refusal_status (ConstTwice file at) = status.Naming
 refusal_status Trial = status.Limit
 
 -- the last line of a run
@@ -60,10 +77,6 @@ status_of (Refused refusal) = refusal_status refusal
 status_of Unsatisfiable = status.Unsatisfiable
 status_of NoOptimum = status.NoOptimum
 status_of (Done count) = status.Done
-
--- an atom behind a space
-abbrev pub atom_text : List ℕ → List ℕ
-atom_text name = 32 ∷ name
 
 -- the line of a set: its number, and its atoms
 abbrev pub set_line : ℕ → List (List ℕ) → List ℕ

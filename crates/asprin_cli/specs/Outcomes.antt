@@ -10,12 +10,18 @@ use Rattle.ap_base.specs.declared.status.Status.{Status}
 use Rattle.ap_eval.specs.AnswerSets.{IsAnswerSet}
 use Rattle.ap_eval.specs.AtomSets.{AtomSet}
 use Rattle.ap_lexemes.specs.declared.fault.ParseFault.TheVariants as fault
+use Rattle.ap_safety.specs.declared.fault.DomainFault.TheVariants as domain
+use Rattle.ap_safety.specs.declared.fault.SafetyFault.TheVariants as safety
 use Rattle.ap_syntax.specs.declared.programs.Statement.{Statement}
 use Rattle.ap_syntax.specs.declared.small.Program.{Program}
+use Rattle.pref_bind.specs.declared.fault.TypeFault.TheVariants as names
+use Rattle.pref_shapes.specs.declared.fault.ShapeFault.TheVariants as shape
 use Rattle.small_front.specs.Accepts.{AreAccepted, FrontCause}
 use Rattle.small_front.specs.Forms.{small_of}
 use Rattle.small_front.specs.Shows.{is_shown}
 use Rattle.small_front.specs.declared.fault.FrontFault.TheVariants as front
+use Rattle.static_checks.specs.declared.fault.StaticFault.{StaticFault}
+use Rattle.static_checks.specs.declared.fault.StaticFault.TheVariants as static
 use Rattle.small_optima.specs.Atoms.{atom_count}
 use Rattle.asprin_cli.specs.Given as given
 use Rattle.asprin_cli.specs.Given.{Given, given_by}
@@ -26,7 +32,7 @@ use Rattle.small_optima.specs.Optimal.{IsSortedListing}
 use Rattle.asprin_cli.specs.declared.end.End.{End}
 use Rattle.asprin_cli.specs.declared.end.End.TheVariants.{Source, Refused, Unsatisfiable, NoOptimum, Done}
 use Rattle.asprin_cli.specs.declared.end.Refusal.{Refusal}
-use Rattle.asprin_cli.specs.declared.end.Refusal.TheVariants.{Usage, Bytes, Syntax, Unsupported, Limit, Later, ConstTwice, Trial}
+use Rattle.asprin_cli.specs.declared.end.Refusal.TheVariants.{Usage, Bytes, Syntax, Unsupported, Limit, Misnamed, NamingCycle, BadElement, Unsafe, AggregateRecursion, Recursion, NotDomain, Later, Trial}
 
 -- The listing of an accepted program: DONE where it has an optimal set, NO OPTIMUM where it has answer sets and none is
 -- optimal, UNSATISFIABLE where it has no answer set.
@@ -37,15 +43,25 @@ ListsOptima p sets Unsatisfiable = (sets ≡ []) × ((x : AtomSet) → IsAnswerS
 ListsOptima p sets (Source opened) = ⊥
 ListsOptima p sets (Refused refusal) = ⊥
 
+-- a fault of the static conditions
+abbrev pub AreStatic : List (List ℕ) → StaticFault → Type 0
+AreStatic files fault = FrontCause files (front.Static fault)
+
 -- When each refusal of texts comes, in this order: SYNTAX, UNSUPPORTED and the limits of a text where this is the
--- first fault of the files; what is not of the small language; a constant that is declared twice; more than 12 atoms
--- in the rules.
+-- first fault of the files; NAMING; BAD ELEMENT by its shape; UNSAFE; AGGREGATE RECURSION; RECURSION; NOT DOMAIN; what is not
+-- of the small language; more than 12 atoms in the rules.
 abbrev pub AreRefused : List (List ℕ) → Refusal → Type 0
 AreRefused files (Syntax file at) = FrontCause files (front.Reading file (fault.Syntax at))
 AreRefused files (Unsupported file at construct) = FrontCause files (front.Reading file (fault.Unsupported construct at))
 AreRefused files (Limit which) = (file : ℕ) × (at : ℕ) × FrontCause files (front.Reading file (fault.Limit which at))
+AreRefused files (Misnamed file at cause) = AreStatic files (static.Naming (names.Misnamed file at cause))
+AreRefused files (NamingCycle list) = AreStatic files (static.Naming (names.NamingCycle list))
+AreRefused files (BadElement name place) = AreStatic files (static.Shape (shape.BadElement name place))
+AreRefused files (Unsafe file at variable) = AreStatic files (static.Safety (safety.Unsafe file at variable))
+AreRefused files (AggregateRecursion file at) = AreStatic files (static.Safety (safety.AggregateRecursion file at))
+AreRefused files (Recursion file at) = AreStatic files (static.Safety (safety.Recursion file at))
+AreRefused files (NotDomain file at) = AreStatic files (static.Domain (domain.NotDomain file at))
 AreRefused files (Later file at) = FrontCause files (front.Later file at)
-AreRefused files (ConstTwice file at) = FrontCause files (front.ConstTwice file at)
 AreRefused files Trial = (ss : List Statement) × AreAccepted files ss × (12 < atom_count (small_of ss))
 AreRefused files Usage = ⊥
 AreRefused files Bytes = ⊥

@@ -4,6 +4,8 @@ ghost use Rattle.ap_base.specs.Counts.{counted};
 ghost use Rattle.ap_base.specs.Readings.{AllHeld, bytes_of, texts_of};
 ghost use Rattle.small_front.specs.Accepts.{FrontCause};
 ghost use Rattle.small_front.specs.Files.{FirstFault};
+ghost use Rattle.small_front.specs.declared.fault.FrontFault.TheVariants as front;
+ghost use Rattle.static_checks.specs.declared.fault.StaticFault.TheVariants as static;
 ghost use Rattle.asprin_cli.specs.Given.{Texts, given_by};
 ghost use Rattle.asprin_cli.specs.Listed.{AreOptimaOf};
 ghost use Rattle.asprin_cli.specs.Stops.{ReadStop, TextsStop};
@@ -13,8 +15,12 @@ use crate::words::read_words;
 use crate::{Found, Refusal, Stop};
 use ap_base::{ReadFault, Source, read_all};
 use ap_lexemes::ParseFault;
+use ap_safety::{DomainFault, SafetyFault};
+use pref_bind::TypeFault;
+use pref_shapes::ShapeFault;
 use small_front::{FrontFault, accept};
 use small_optima::{TrialFault, list_optima};
+use static_checks::StaticFault;
 use std::alloc::Global;
 
 /// The bytes of the files that the words name.
@@ -62,14 +68,78 @@ fn stop_at(file: u32, fault: ParseFault) -> Stop
     }
 }
 
+/// What a wrong name ends a run with.
+fn stop_naming(fault: TypeFault) -> Stop
+    ensures { (files : List (List ℕ)) → FrontCause files (front.Static (static.Naming fault)) → TextsStop files result }
+{
+    match fault {
+        TypeFault::Misnamed { file, at, cause } => {
+            Stop::Refused(Refusal::Misnamed { file, at, cause })
+        }
+        TypeFault::NamingCycle { list } => Stop::Refused(Refusal::NamingCycle(list)),
+        TypeFault::Memory => Stop::Memory,
+    }
+}
+
+/// What a wrong shape ends a run with.
+fn stop_shape(fault: ShapeFault) -> Stop
+    ensures { (files : List (List ℕ)) → FrontCause files (front.Static (static.Shape fault)) → TextsStop files result }
+{
+    match fault {
+        ShapeFault::BadElement { statement, place } => {
+            Stop::Refused(Refusal::BadElement { statement, place })
+        }
+        ShapeFault::Memory => Stop::Memory,
+    }
+}
+
+/// What an unbound variable or a recursion ends a run with.
+fn stop_safety(fault: SafetyFault) -> Stop
+    ensures { (files : List (List ℕ)) → FrontCause files (front.Static (static.Safety fault)) → TextsStop files result }
+{
+    match fault {
+        SafetyFault::Unsafe { file, at, variable } => {
+            Stop::Refused(Refusal::Unsafe { file, at, variable })
+        }
+        SafetyFault::AggregateRecursion { file, at } => {
+            Stop::Refused(Refusal::AggregateRecursion { file, at })
+        }
+        SafetyFault::Recursion { file, at } => Stop::Refused(Refusal::Recursion { file, at }),
+        SafetyFault::Memory => Stop::Memory,
+    }
+}
+
+/// What a condition that is not definite ends a run with.
+fn stop_domain(fault: DomainFault) -> Stop
+    ensures { (files : List (List ℕ)) → FrontCause files (front.Static (static.Domain fault)) → TextsStop files result }
+{
+    match fault {
+        DomainFault::NotDomain { file, at } => Stop::Refused(Refusal::NotDomain { file, at }),
+        DomainFault::Memory => Stop::Memory,
+    }
+}
+
+/// What a fault of the static conditions ends a run with.
+fn stop_static(fault: StaticFault) -> Stop
+    ensures { (files : List (List ℕ)) → FrontCause files (front.Static fault) → TextsStop files result }
+{
+    match fault {
+        StaticFault::Naming(fault) => stop_naming(fault),
+        StaticFault::Shape(fault) => stop_shape(fault),
+        StaticFault::Safety(fault) => stop_safety(fault),
+        StaticFault::Domain(fault) => stop_domain(fault),
+        StaticFault::Memory => Stop::Memory,
+    }
+}
+
 /// What a refusal of texts ends a run with.
 fn stop_for(fault: FrontFault) -> Stop
     ensures { (files : List (List ℕ)) → FrontCause files fault → TextsStop files result }
 {
     match fault {
         FrontFault::Reading { file, fault } => stop_at(file, fault),
+        FrontFault::Static(fault) => stop_static(fault),
         FrontFault::Later { file, at } => Stop::Refused(Refusal::Later { file, at }),
-        FrontFault::ConstTwice { file, at } => Stop::Refused(Refusal::ConstTwice { file, at }),
         FrontFault::Memory => Stop::Memory,
     }
 }

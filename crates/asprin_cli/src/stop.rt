@@ -2,7 +2,7 @@
 use crate::Refusal;
 
 /// Why there is nothing to list.
-#[derive(Clone, Copy, Debug, PartialEq, Eq)]
+#[derive(Debug, Drop)]
 pub enum Stop {
     /// The source failed in the open of this number, counted from 1, or in reading what it opened.
     Source(u64),

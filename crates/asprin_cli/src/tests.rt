@@ -198,7 +198,7 @@ const TEXTS: [(&str, &str, Status); 42] = [
     ),
     ("a(1).", "UNSUPPORTED 1:0 later\n", Status::Unsupported),
     (
-        "#preference(p,subset){a}. #optimize(q).",
+        "#preference(p,subset){a}. #preference(q,subset){a}.",
         "UNSUPPORTED 1:26 later\n",
         Status::Unsupported,
     ),
@@ -208,7 +208,7 @@ const TEXTS: [(&str, &str, Status); 42] = [
         Status::Naming,
     ),
     (
-        "#const n = 1. #const n = 2. a(1).",
+        "#const n = 1. #const m = 2. a(1).",
         "UNSUPPORTED 1:28 later\n",
         Status::Unsupported,
     ),
@@ -232,6 +232,290 @@ const TEXTS: [(&str, &str, Status); 42] = [
 #[test]
 fn texts(rt: HostRuntime) -> Result<(), Fail> {
     for (at, (text, lines, status)) in TEXTS.iter().enumerate() {
+        let case = reading(text.as_bytes(), *lines, *status);
+        assert!(rt; passes(rt.alloc(), &case)?, "text {at}");
+    }
+    Ok(())
+}
+
+/// Texts of one file that do not meet the static conditions, or meet them and are not of the small language: the worked lines,
+/// each cause of NAMING, the shapes of the types, and of two faults the one that is told.
+const STATIC: [(&str, &str, Status); 54] = [
+    (
+        "p(X) :- not q(X).",
+        "UNSAFE 1:0 X\n",
+        Status::Unsafe,
+    ),
+    (
+        "a :- 1 <= #count{X : q(X)}. q(1) :- a.",
+        "AGGREGATE RECURSION 1:0\n",
+        Status::AggregateRecursion,
+    ),
+    (
+        "p(0). p(X+1) :- p(X).",
+        "RECURSION 1:6\n",
+        Status::Recursion,
+    ),
+    (
+        "#optimize(p).",
+        "NAMING 1:0 statement\n",
+        Status::Naming,
+    ),
+    (
+        "#preference(p,subset){a >> b}.",
+        "BAD ELEMENT p 1\n",
+        Status::BadElement,
+    ),
+    (
+        "{b}. #preference(p,subset){a : b}.",
+        "NOT DOMAIN 1:27\n",
+        Status::NotDomain,
+    ),
+    (
+        "#program preference(t). better(P) :- preference(P,_), not better(P).",
+        "RECURSION 1:24\n",
+        Status::Recursion,
+    ),
+    (
+        "#preference(q,u){**r}. #preference(r,u){**q}. #program preference(u).",
+        "NAMING cycle q r\n",
+        Status::Naming,
+    ),
+    (
+        "{a(1..40)}. #preference(p,subset){a(1..40)}. #optimize(p).",
+        "BAD ELEMENT p 1\n",
+        Status::BadElement,
+    ),
+    (
+        "#preference(p,and){}.",
+        "BAD ELEMENT p 0\n",
+        Status::BadElement,
+    ),
+    (
+        "#preference(p,u){a}.",
+        "NAMING 1:0 type\n",
+        Status::Naming,
+    ),
+    (
+        "{a}. #preference(p,subset){a}. #preference(p,subset){a}.",
+        "NAMING 1:31 twice\n",
+        Status::Naming,
+    ),
+    (
+        "#preference(p,subset){a}. #optimize(p). #optimize(p).",
+        "NAMING 1:40 optimize\n",
+        Status::Naming,
+    ),
+    (
+        "#program preference(subset).",
+        "NAMING 1:0 reserved\n",
+        Status::Naming,
+    ),
+    (
+        "#preference(p,pareto){**q}.",
+        "NAMING 1:0 statement\n",
+        Status::Naming,
+    ),
+    (
+        "#preference(p,subset){a || **q}.",
+        "NAMING 1:0 statement\n",
+        Status::Naming,
+    ),
+    (
+        "#preference(p,subset){a || **p}.",
+        "NAMING cycle p\n",
+        Status::Naming,
+    ),
+    (
+        "#preference(p,u){**q}. #program preference(subset).",
+        "NAMING 1:0 type\n",
+        Status::Naming,
+    ),
+    (
+        "#preference(p,subset){a}. #preference(p,subset){**q}. #preference(p,u){a}.",
+        "NAMING 1:26 statement\n",
+        Status::Naming,
+    ),
+    (
+        "#preference(a,pareto){**b}. #preference(b,pareto){**c}. #preference(c,pareto){**b}. #preference(d,pareto){**a}.",
+        "NAMING cycle b c\n",
+        Status::Naming,
+    ),
+    (
+        "#preference(p,subset){a; a || b}.",
+        "BAD ELEMENT p 2\n",
+        Status::BadElement,
+    ),
+    (
+        "#preference(p,superset){a >> b}.",
+        "BAD ELEMENT p 1\n",
+        Status::BadElement,
+    ),
+    (
+        "#preference(q,subset){a}. #preference(p,less(cardinality)){**q}.",
+        "BAD ELEMENT p 1\n",
+        Status::BadElement,
+    ),
+    (
+        "#preference(p,less(weight)){1::a; a}.",
+        "BAD ELEMENT p 2\n",
+        Status::BadElement,
+    ),
+    (
+        "#preference(q,subset){a}. #preference(p,aso){a >> b; **q}.",
+        "BAD ELEMENT p 2\n",
+        Status::BadElement,
+    ),
+    (
+        "#preference(p,poset){a >> b; a || b}.",
+        "BAD ELEMENT p 2\n",
+        Status::BadElement,
+    ),
+    (
+        "#preference(p,cp){a >> not (a) || b; a >> not b}.",
+        "BAD ELEMENT p 2\n",
+        Status::BadElement,
+    ),
+    (
+        "#preference(p,cp){a(1+1) >> not a(2)}.",
+        "BAD ELEMENT p 1\n",
+        Status::BadElement,
+    ),
+    (
+        "#preference(p,pareto){a}.",
+        "BAD ELEMENT p 1\n",
+        Status::BadElement,
+    ),
+    (
+        "#preference(q,subset){a}. #preference(p,lexico){1::**q; **q}.",
+        "BAD ELEMENT p 2\n",
+        Status::BadElement,
+    ),
+    (
+        "#preference(q,subset){a}. #preference(p,and){1::**q}.",
+        "BAD ELEMENT p 1\n",
+        Status::BadElement,
+    ),
+    (
+        "#preference(q,subset){a}. #preference(p,neg){**q; **q}.",
+        "BAD ELEMENT p 2\n",
+        Status::BadElement,
+    ),
+    (
+        "#preference(q,subset){a}. #preference(p,neg){a; **q}.",
+        "BAD ELEMENT p 1\n",
+        Status::BadElement,
+    ),
+    (
+        "#preference(q,subset){a}. #preference(p,pareto){**q : d}.",
+        "BAD ELEMENT p 1\n",
+        Status::BadElement,
+    ),
+    (
+        "#preference(q,subset){a}. #preference(p,pareto){**q || b}.",
+        "BAD ELEMENT p 1\n",
+        Status::BadElement,
+    ),
+    (
+        "#program preference(u). #preference(p,u){a; (1..2)::b}.",
+        "BAD ELEMENT p 2\n",
+        Status::BadElement,
+    ),
+    (
+        "#program preference(u). #preference(p,u){a >> b | not c(f(1..2))}.",
+        "BAD ELEMENT p 1\n",
+        Status::BadElement,
+    ),
+    (
+        "#preference(p,u){1::a >> not b || c; 2::a}. #program preference(u). better(P) :- preference(P,_).",
+        "UNSUPPORTED 1:0 later\n",
+        Status::Unsupported,
+    ),
+    (
+        "#preference(q,neg){**r}. #preference(r,cp){not a(X) >> a(X) : d(X)}.",
+        "UNSUPPORTED 1:0 later\n",
+        Status::Unsupported,
+    ),
+    (
+        "#optimize(p). a :- .",
+        "SYNTAX 1:19\n",
+        Status::Syntax,
+    ),
+    (
+        "#preference(p,subset){a >> b}. #optimize(q).",
+        "NAMING 1:31 statement\n",
+        Status::Naming,
+    ),
+    (
+        "p(X). #preference(p,subset){a >> b}.",
+        "BAD ELEMENT p 1\n",
+        Status::BadElement,
+    ),
+    (
+        "a :- 1 <= #count{X : q(X)}. q(1) :- a. p(X).",
+        "UNSAFE 1:39 X\n",
+        Status::Unsafe,
+    ),
+    (
+        "p(0). p(X+1) :- p(X). a :- 1 <= #count{X : q(X)}. q(1) :- a.",
+        "AGGREGATE RECURSION 1:22\n",
+        Status::AggregateRecursion,
+    ),
+    (
+        "{b}. c :- d(1) : b. p(0). p(X+1) :- p(X).",
+        "RECURSION 1:26\n",
+        Status::Recursion,
+    ),
+    (
+        "a(1). {b}. c :- a(1) : b.",
+        "NOT DOMAIN 1:16\n",
+        Status::NotDomain,
+    ),
+    (
+        "p(X). #program preference(t). better(P).",
+        "UNSAFE 1:0 X\n",
+        Status::Unsafe,
+    ),
+    (
+        "#program preference(t). better(P). #program base. p(X).",
+        "UNSAFE 1:24 P\n",
+        Status::Unsafe,
+    ),
+    (
+        "#program preference(t). q(P) :- r(P), q(P). #program base. p(X).",
+        "UNSAFE 1:59 X\n",
+        Status::Unsafe,
+    ),
+    (
+        "#program preference(t). q(P) :- r(P), q(P). #program base. p(0). p(X+1) :- p(X).",
+        "RECURSION 1:24\n",
+        Status::Recursion,
+    ),
+    (
+        "#program preference(t). c :- d(X) : holds(X). #program base. {b}. #preference(p,subset){a : b}.",
+        "NOT DOMAIN 1:29\n",
+        Status::NotDomain,
+    ),
+    (
+        "#preference(p,subset){a : not d(X)}. b(Y).",
+        "UNSAFE 1:22 X\n",
+        Status::Unsafe,
+    ),
+    (
+        "#program preference(t). q :- r. #program base. #program preference(u). r :- q. #program preference(t). r :- q.",
+        "RECURSION 1:24\n",
+        Status::Recursion,
+    ),
+    (
+        "#const n = 1. #const n = 2. a(1).",
+        "NAMING 1:14 const\n",
+        Status::Naming,
+    ),
+];
+
+#[test]
+fn static_conditions(rt: HostRuntime) -> Result<(), Fail> {
+    for (at, (text, lines, status)) in STATIC.iter().enumerate() {
         let case = reading(text.as_bytes(), *lines, *status);
         assert!(rt; passes(rt.alloc(), &case)?, "text {at}");
     }
@@ -269,7 +553,7 @@ fn words(rt: HostRuntime) -> Result<(), Fail> {
 }
 
 /// The bytes of two files, with the lines and the status of their run.
-const TWO: [(&[u8], &[u8], &str, Status); 7] = [
+const TWO: [(&[u8], &[u8], &str, Status); 12] = [
     (ROW, b":- a.", "OPTIMUM 1: b\nDONE 1\n", Status::Done),
     (
         ROW,
@@ -280,7 +564,37 @@ const TWO: [(&[u8], &[u8], &str, Status); 7] = [
     (
         ROW,
         b"#optimize(p).",
-        "UNSUPPORTED 2:0 later\n",
+        "NAMING 2:0 optimize\n",
+        Status::Naming,
+    ),
+    (
+        b"#preference(p,pareto){**q}.",
+        b"#preference(q,pareto){**p}.",
+        "NAMING cycle p q\n",
+        Status::Naming,
+    ),
+    (
+        b"p(X).",
+        b"#preference(p,subset){a >> b}.",
+        "BAD ELEMENT p 1\n",
+        Status::BadElement,
+    ),
+    (
+        b"#program preference(t). better(P).",
+        b"p(X).",
+        "UNSAFE 1:24 P\n",
+        Status::Unsafe,
+    ),
+    (
+        b"#program preference(t). b :- c.",
+        b"#program preference(t). c :- b.",
+        "RECURSION 1:24\n",
+        Status::Recursion,
+    ),
+    (
+        b"#program preference(t). b :- c.",
+        b"c :- b.",
+        "UNSUPPORTED 1:0 later\n",
         Status::Unsupported,
     ),
     (

@@ -1,7 +1,7 @@
 -- Lists that are taken apart from their ends.
 use Rattle.std.proofs.Common.{◌≡◌, Bool, true, false, ◌&&◌, List, [], ◌∷◌, ◌++◌, Option, None, Some, is_some, reverse, refl, sym, ap, ◌∙◌, append_assoc}
 use Rattle.std.specs.List.{cons_option, filter_map, list_all}
-use Rattle.std.proofs.lemmas.List.{append-nil, reverse-append}
+use Rattle.std.proofs.lemmas.List.{append-nil, reverse-append, reverse-reverse}
 use Rattle.std.proofs.lemmas.List.Elements.{filter_map-append}
 use Rattle.std.proofs.lemmas.List.Folds.{list_all-append}
 
@@ -23,8 +23,21 @@ found-more h all old rest last y small new before taken found pushed =
     before ∙ (ap (λ xs. filter_map h xs ++ reverse small) taken ∙ (ap (λ ys. ys ++ reverse small) split
     ∙ (append_assoc (filter_map h rest) (y ∷ []) (reverse small) ∙ ap (λ ys. filter_map h rest ++ ys) (sym turned))))
 
--- nothing is found of the last
-pub found-none : {X Y : Type 0} (h : X → Option Y) (all old rest : List X) (last : X) (small : List Y) → filter_map h all ≡ filter_map h old ++ reverse small → old ≡ rest ++ last ∷ [] → None ≡ h last → filter_map h all ≡ filter_map h rest ++ reverse small
-found-none h all old rest last small before taken found =
-    let split = filter_map-append h rest (last ∷ []) ∙ (ap (λ o. filter_map h rest ++ cons_option o []) (sym found) ∙ append-nil (filter_map h rest)) in
-    before ∙ (ap (λ xs. filter_map h xs ++ reverse small) taken ∙ ap (λ ys. ys ++ reverse small) split)
+-- the same where what was found stands first, from the last to the first
+
+pub turned-more : {X Y : Type 0} (h : X → Option Y) (all small new : List Y) (old rest : List X) (last : X) (y : Y) → all ≡ small ++ reverse (filter_map h old) → old ≡ rest ++ last ∷ [] → Some y ≡ h last → new ≡ small ++ y ∷ [] → all ≡ new ++ reverse (filter_map h rest)
+turned-more h all small new old rest last y before taken found pushed =
+    let split = ap (filter_map h) taken ∙ (filter_map-append h rest (last ∷ []) ∙ ap (λ o. filter_map h rest ++ cons_option o []) (sym found)) in
+    before ∙ (ap (λ ys. small ++ reverse ys) split ∙ (ap (λ ys. small ++ ys) (reverse-append (filter_map h rest) (y ∷ []))
+    ∙ (sym (append_assoc small (y ∷ []) (reverse (filter_map h rest))) ∙ ap (λ ys. ys ++ reverse (filter_map h rest)) (sym pushed))))
+
+pub turned-none : {X Y : Type 0} (h : X → Option Y) (all small : List Y) (old rest : List X) (last : X) → all ≡ small ++ reverse (filter_map h old) → old ≡ rest ++ last ∷ [] → None ≡ h last → all ≡ small ++ reverse (filter_map h rest)
+turned-none h all small old rest last before taken found =
+    let split = ap (filter_map h) taken ∙ (filter_map-append h rest (last ∷ []) ∙ (ap (λ o. filter_map h rest ++ cons_option o []) (sym found) ∙ append-nil (filter_map h rest))) in
+    before ∙ ap (λ ys. small ++ reverse ys) split
+
+-- what stands for the three lists, turned round
+pub all-turned : {Y : Type 0} (a b c found : List Y) → found ≡ (reverse c ++ reverse b) ++ reverse a → reverse found ≡ a ++ (b ++ c)
+all-turned a b c found e =
+    ap reverse e ∙ (reverse-append (reverse c ++ reverse b) (reverse a) ∙ (ap (λ ys. ys ++ reverse (reverse c ++ reverse b)) (reverse-reverse a)
+    ∙ ap (λ ys. a ++ ys) (reverse-append (reverse c) (reverse b) ∙ (ap (λ ys. ys ++ reverse (reverse c)) (reverse-reverse b) ∙ ap (λ ys. b ++ ys) (reverse-reverse c)))))

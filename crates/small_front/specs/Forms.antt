@@ -1,5 +1,5 @@
 -- The statements of the small language among all statements, and the small trees that stand for them.
-use Rattle.std.specs.Prelude.{ℕ, List, [], ◌∷◌, Option, None, Some, codes, is_some, if◌then◌else◌}
+use Rattle.std.specs.Prelude.{ℕ, List, [], ◌∷◌, ◌++◌, Option, None, Some, codes, is_some, if◌then◌else◌}
 use Rattle.std.specs.List.{filter_map, list_all}
 use Rattle.std.specs.Option.{option_map}
 use Rattle.std.specs.Str.{bytes_eq}
@@ -37,6 +37,8 @@ use Rattle.ap_syntax.specs.declared.terms.Atom.{Atom}
 use Rattle.ap_syntax.specs.declared.terms.Literal.{Literal}
 use Rattle.ap_syntax.specs.declared.terms.Literal.TheVariants as literal
 use Rattle.ap_syntax.specs.declared.terms.Term.{Term}
+use Rattle.program_parts.specs.Parts.{parts_of}
+use Rattle.program_parts.specs.declared.parts.Parts.{Parts}
 
 -- a list's small trees, if each of its members has one
 abbrev pub each : {A B : Type 0} → (A → Option B) → List A → Option (List B)
@@ -123,13 +125,23 @@ small_preference p =
 
 -- ---- programs
 
-abbrev pub small_statement_of : Statement → Option small_statements.Statement
-small_statement_of (statement.Rule r) = option_map small_statement.Rule (small_rule r)
-small_statement_of (statement.Preference p) = option_map small_statement.Preference (small_preference p)
-small_statement_of (statement.Optimize file at name) = Some (small_statement.Optimize name)
-small_statement_of other = None
+abbrev pub of_rule : Rule → Option small_statements.Statement
+of_rule r = option_map small_statement.Rule (small_rule r)
 
--- The small program of some statements: what stands for its rules, preference statements and `#optimize` statements,
--- in order. All else leaves nothing. No term stands in a small program, so the values of constants do not count.
+abbrev pub of_preference : Preference → Option small_statements.Statement
+of_preference p = option_map small_statement.Preference (small_preference p)
+
+abbrev pub of_optimize : Statement → Option small_statements.Statement
+of_optimize (statement.Optimize file at name) = Some (small_statement.Optimize name)
+of_optimize other = None
+
+-- what stands for the rules of the base, for the preference statements, and for the `#optimize` statements, each in order
+abbrev pub small_parts : Parts → small_programs.Program
+small_parts parts = record {
+  statements = filter_map of_rule parts.base ++ (filter_map of_preference parts.preferences ++ filter_map of_optimize parts.others);
+}
+
+-- The small program of some statements. All else leaves nothing. No term stands in a small program, so the values of constants
+-- do not count.
 abbrev pub small_of : List Statement → small_programs.Program
-small_of ss = record { statements = filter_map small_statement_of ss }
+small_of ss = small_parts (parts_of ss)

@@ -1,4 +1,3 @@
-pub mod Named
 pub mod Files
 pub mod Forms
 pub mod Later

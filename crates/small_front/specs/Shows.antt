@@ -4,7 +4,7 @@ use Rattle.std.specs.List.{list_any}
 use Rattle.std.specs.Str.{bytes_eq}
 use Rattle.ap_syntax.specs.declared.programs.Statement.{Statement}
 use Rattle.ap_syntax.specs.declared.programs.Statement.TheVariants as statement
-use Rattle.small_front.specs.Named.{is_named}
+use Rattle.pref_bind.specs.Named.{is_named}
 use Rattle.small_front.specs.declared.shown.Shown.{Shown}
 use Rattle.small_front.specs.declared.shown.Shown.TheVariants.{All, Names}
 

@@ -2,12 +2,10 @@
 #![tactic(auto)]
 
 mod accepted;
-mod constants;
 mod fault;
 mod files;
 mod front;
 mod later;
-mod names;
 mod place;
 mod preferences;
 mod program;
@@ -17,6 +15,5 @@ mod shown;
 pub use accepted::Accepted;
 pub use fault::FrontFault;
 pub use front::accept;
-pub use names::Names;
 pub use place::Place;
 pub use shown::Shown;

@@ -1,72 +1,81 @@
-// The small program of some statements.
-ghost use Rattle.std.specs.Prelude.{◌≡◌, is_some, length, IfOk};
+// The small program of the parts of a program.
+ghost use Rattle.std.specs.Prelude.{◌≡◌, ◌++◌, reverse, IfOk, OnOk};
 ghost use Rattle.std.specs.List.{filter_map};
-ghost use Rattle.small_front.specs.Forms.{small_of, small_statement_of};
+ghost use Rattle.small_front.specs.Forms.{of_optimize, of_preference, of_rule, small_parts};
 
-use crate::preferences::{is_small_preference, small_preference};
-use crate::rules::{is_small_rule, small_rule};
-use ap_syntax::{Statement, Statements, small};
+use crate::preferences::small_preference;
+use crate::rules::small_rule;
+use ap_syntax::{Preference, Rule, Statement, fitted, small};
+use program_parts::Parts;
 use sqlite_items::Items;
 use std::alloc::{AllocError, Global};
 
-/// What stands for a statement in the small program, if something does.
-fn small_statement(
+/// Adds what stands for the rules, from the last to the first.
+fn push_rules(
     alloc: Global,
-    statement: Statement,
-) -> Result<Option<small::Statement>, AllocError>
-    ensures { IfOk result (λ found. found ≡ small_statement_of statement) }
+    found: &mut Vec<small::Statement>,
+    mut rules: Items<Rule>,
+) -> Result<(), AllocError>
+    ensures { OnOk result (found.new.items ≡ found.old.items ++ reverse (filter_map of_rule rules)) }
 {
-    match statement {
-        Statement::Rule(rule) => Ok(small_rule(alloc, rule)?.map(small::Statement::Rule)),
-        Statement::Preference(preference) => {
-            Ok(small_preference(alloc, preference)?.map(small::Statement::Preference))
-        }
-        Statement::Optimize { name, .. } => Ok(Some(small::Statement::Optimize(name))),
-        _ => Ok(None),
-    }
-}
-
-/// Whether something stands for a statement in the small program.
-fn is_small(statement: &Statement) -> bool
-    ensures { result ≡ is_some (small_statement_of statement.now) }
-{
-    match statement {
-        Statement::Rule(rule) => is_small_rule(rule),
-        Statement::Preference(preference) => is_small_preference(preference),
-        Statement::Optimize { .. } => true,
-        _ => false,
-    }
-}
-
-/// For how many statements something stands in the small program.
-fn count_small(statements: &[Statement]) -> usize
-    ensures { result ≡ length (filter_map small_statement_of statements.now) }
-{
-    let mut count = 0;
-    for statement in statements {
-        if is_small(statement) {
-            count += 1;
-        }
-    }
-    count
-}
-
-/// The small program of all statements. It takes their names and frees the rest as it goes.
-pub fn small_program(
-    alloc: Global,
-    mut statements: Statements,
-) -> Result<small::Program, AllocError>
-    ensures { IfOk result (λ program. program ≡ small_of statements) }
-{
-    let mut small = Vec::with_capacity(alloc, count_small(statements.as_slice()))?;
-    'statements: while let Some(last) = statements.pop() {
-        match small_statement(alloc, last)? {
-            Some(found) => small.push(found)?,
+    'rules: while let Some(last) = rules.pop() {
+        match small_rule(alloc, last)? {
+            Some(rule) => found.push(small::Statement::Rule(rule))?,
             None => {}
         }
     }
-    small.reverse();
+    Ok(())
+}
+
+/// Adds what stands for the preference statements, from the last to the first.
+fn push_preferences(
+    alloc: Global,
+    found: &mut Vec<small::Statement>,
+    mut preferences: Items<Preference>,
+) -> Result<(), AllocError>
+    ensures { OnOk result (found.new.items ≡ found.old.items ++ reverse (filter_map of_preference preferences)) }
+{
+    'preferences: while let Some(last) = preferences.pop() {
+        match small_preference(alloc, last)? {
+            Some(preference) => found.push(small::Statement::Preference(preference))?,
+            None => {}
+        }
+    }
+    Ok(())
+}
+
+/// Adds what stands for the `#optimize` statements, from the last to the first.
+fn push_optimized(
+    found: &mut Vec<small::Statement>,
+    mut others: Items<Statement>,
+) -> Result<(), AllocError>
+    ensures { OnOk result (found.new.items ≡ found.old.items ++ reverse (filter_map of_optimize others)) }
+{
+    'others: while let Some(last) = others.pop() {
+        match last {
+            Statement::Optimize { name, .. } => found.push(small::Statement::Optimize(name))?,
+            _ => {}
+        }
+    }
+    Ok(())
+}
+
+/// The small program of the parts. It takes their names and frees the rest as it goes.
+pub fn small_program(alloc: Global, parts: Parts) -> Result<small::Program, AllocError>
+    ensures { IfOk result (λ program. program ≡ small_parts parts) }
+{
+    let Parts {
+        base,
+        preferences,
+        others,
+        ..
+    } = parts;
+    let mut found = Vec::with_capacity(alloc, base.len())?;
+    push_optimized(&mut found, others)?;
+    push_preferences(alloc, &mut found, preferences)?;
+    push_rules(alloc, &mut found, base)?;
+    found.reverse();
     Ok(small::Program {
-        statements: Items::from_vec(small),
+        statements: fitted(found),
     })
 }

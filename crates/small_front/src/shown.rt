@@ -2,8 +2,8 @@
 ghost use Rattle.std.specs.Prelude.{◌≡◌, ℕ, List, IfOk};
 ghost use Rattle.small_front.specs.Shows.{is_kept, is_shown};
 
-use crate::names::Names;
 use ap_syntax::{Statement, Text};
+use pref_bind::Names;
 use std::alloc::{AllocError, Global};
 
 /// Which atoms are shown.

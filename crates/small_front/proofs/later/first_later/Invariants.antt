@@ -4,4 +4,4 @@ use Rattle.small_front.proofs.later.first_later.Given as goal
 
 -- the first later form stands in the rest
 abbrev pub invariant-loop-statement : goal.invariant-loop-statement
-invariant-loop-statement l = first_later l.statements ≡ later_from l.statements l.preferred l.optimised (drop l.statement-index l.statements)
+invariant-loop-statement l = first_later l.statements ≡ later_from l.preferred (drop l.statement-index l.statements)

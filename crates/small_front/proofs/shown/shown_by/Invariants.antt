@@ -1,6 +1,6 @@
 use Rattle.std.proofs.Common.{◌≡◌, ◌||◌, not, ℕ, List, drop}
 use Rattle.std.specs.List.{list_any}
-use Rattle.small_front.specs.Named.{is_named}
+use Rattle.pref_bind.specs.Named.{is_named}
 use Rattle.small_front.specs.Shows.{is_show, shows}
 use Rattle.small_front.proofs.shown.shown_by.Given as goal
 
