@@ -1,9 +1,0 @@
-pub mod Turned
-pub mod Keys
-pub mod Periods
-pub mod Moves
-pub mod Search
-pub mod Answers
-pub mod Lates
-pub mod Learning
-pub mod Forgetting

@@ -1,9 +1,0 @@
-pub mod Views
-pub mod Conditions
-pub mod Holding
-pub mod Answers
-pub mod Calls
-pub mod Lent
-pub mod Turns
-pub mod Founds
-pub mod Rests

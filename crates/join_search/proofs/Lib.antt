@@ -1,4 +1,0 @@
-pub mod MatchLemmas
-pub mod PatternMatches
-pub mod Grown
-pub mod Evaluated

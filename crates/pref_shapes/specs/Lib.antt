@@ -1,4 +1,0 @@
-pub mod Intervals
-pub mod Forms
-pub mod Shapes
-pub mod Answers

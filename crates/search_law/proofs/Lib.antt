@@ -1,5 +1,0 @@
-pub mod ValueLemmas
-mod LoopLemmas
-pub mod SumLemmas
-mod CountLemmas
-mod FewLemmas
